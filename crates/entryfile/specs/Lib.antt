@@ -1,0 +1,6 @@
+pub mod Forms
+pub mod Layout
+pub mod Items
+pub mod Views
+pub mod Steps
+pub mod Spelling
