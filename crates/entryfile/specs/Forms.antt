@@ -50,3 +50,8 @@ accepts done [] = true
 accepts done (n ∷ ns) = false
 accepts (field fault test rest) [] = false
 accepts (field fault test rest) (n ∷ ns) = test n && accepts (rest n) ns
+
+-- only the place after the numbers
+abbrev pub endOf : Got (List ℕ) → Result ℕ EntryFault
+endOf (Ok p) = Ok (p .1)
+endOf (Err e) = Err e

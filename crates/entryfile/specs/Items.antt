@@ -1,5 +1,5 @@
 -- Entries as they stand in a file: their numbers and their reference.
-use mathlib.Core.Bool.{Bool, cond}
+use mathlib.Core.Bool.{Bool, cond, _&&_}
 use mathlib.Core.List.{List, [], _∷_, _++_}
 use Prim.Native.Nat.{ℕ, _+_, _-_}
 use lib.Dec.{ltb}
@@ -28,12 +28,12 @@ item ns t = record { numbers = ns; reference = t }
 abbrev pub printable : ℕ → Bool
 printable b = within 32 126 b
 
-abbrev pub wholeText : List ℕ → ℕ → Got (List ℕ)
-wholeText t at = cond (every printable t) (Ok (t, at + length t)) (Err (BadText at))
+abbrev pub wholeText : List ℕ → ℕ → ℕ → Got (List ℕ)
+wholeText t at end = cond (every printable t) (Ok (t, end)) (Err (BadText at))
 
 -- so many bytes of text; a text that is cut short is cause 1, even with a bad byte in it
 unfoldable pub textAt : ℕ → List ℕ → ℕ → Got (List ℕ)
-textAt n file at = cond (ltb (length file - at) n) (Err (Number (record { cause = Ends; place = at }))) (wholeText (between at (at + n) file) at)
+textAt n file at = cond (ltb (length file - at) n) (Err (Number (record { cause = Ends; place = at }))) (wholeText (between at (at + n) file) at (at + n))
 
 abbrev pub afterLength : List ℕ → Got ℕ → Got (List ℕ)
 afterLength file (Ok p) = textAt (p .0) file (p .1)
@@ -42,6 +42,10 @@ afterLength file (Err e) = Err e
 -- a length of 0 to 32, and so many bytes
 abbrev pub referenceAt : List ℕ → ℕ → Got (List ℕ)
 referenceAt file at = afterLength file (checkedAt OutOfRange (within 0 32) file at)
+
+-- a reference that fits in a file
+abbrev pub referenceFits : List ℕ → Bool
+referenceFits t = within 0 32 (length t) && every printable t
 
 abbrev pub called : List ℕ → Got (List ℕ) → Got Item
 called ns (Ok p) = Ok (item ns (p .0), p .1)

@@ -2,5 +2,5 @@ pub mod Forms
 pub mod Layout
 pub mod Items
 pub mod Views
-pub mod Steps
-pub mod Spelling
+pub mod Files
+pub mod Laws

@@ -1,4 +1,5 @@
 // The entry file: its reader, its writer and the faults of layers 1 and 2.
+mod entries;
 mod entry;
 mod fault;
 mod fields;

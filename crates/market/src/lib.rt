@@ -1,5 +1,7 @@
 // The market's vocabulary: kinds of resource, the opening of a book with the ranges of its numbers, and the refusal
 // table. Every other crate speaks in these words.
+ghost use mathlib.Core.Path.{_≡_};
+ghost use Rattle.market.specs.Ranges.{within};
 mod family;
 mod kind;
 mod month;
@@ -29,3 +31,10 @@ pub use refusal::FaultPartialEq;
 pub use refusal::Layer;
 pub use refusal::LayerDebug;
 pub use refusal::LayerPartialEq;
+
+// Whether a number lies from `low` to `high`, both included.
+pub fn in_range(n: u32, low: u32, high: u32) -> bool
+    ensures { λ r. ⌜ r ≡ within low high n ⌝ }
+{
+    low <= n && n <= high
+}

@@ -5,16 +5,11 @@ ghost use Prim.Native.Nat.{_≤_};
 ghost use Rattle.market.specs.Ranges.{within, every, limit};
 ghost use Rattle.market.specs.Openings.{terms, monthInRange, calendarFits, pricesFit};
 ghost use Rattle.market.specs.Opened.{Made, termsOf};
+use crate::in_range;
 use crate::month::Month;
 use crate::opening::Opening;
 use crate::refusal::Cause;
 use crate::refusal::Fault;
-
-fn in_range(n: u32, low: u32, high: u32) -> bool
-    ensures { λ r. ⌜ r ≡ within low high n ⌝ }
-{
-    low <= n && n <= high
-}
 
 fn month_in_range(month: Month) -> bool
     ensures { λ r. ⌜ r ≡ monthInRange month ⌝ }

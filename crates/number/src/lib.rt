@@ -36,7 +36,10 @@ pub fn read_number(file: &[u8], at: usize) -> Result<(u32, usize), NumberFault>
     ensures rewrites { λ r. ⌜ made r (λ p. encode (p .0) ≡ between at (p .1) (now (file .entry))) ⌝ }
 {
     if at >= file.len() {
-        return Err(NumberFault { cause: NumberCause::Ends, place: at });
+        return Err(NumberFault {
+            cause: NumberCause::Ends,
+            place: at,
+        });
     }
     let first = file[at];
     if first < 128 {
@@ -47,20 +50,29 @@ pub fn read_number(file: &[u8], at: usize) -> Result<(u32, usize), NumberFault>
 
 // A number of several groups, whose first byte stands at `at`.
 fn read_groups(file: &[u8], at: usize) -> Result<(u32, usize), NumberFault>
+    ensures is { λ r. ⌜ r ≡ numberAt (now (file .entry)) at ⌝ }
+    ensures within { λ r. ⌜ made r (λ p. (at < p .1) × (p .1 ≤ length (now (file .entry)))) ⌝ }
+    ensures rewrites { λ r. ⌜ made r (λ p. encode (p .0) ≡ between at (p .1) (now (file .entry))) ⌝ }
 {
     let mut value: u32 = 0;
     let mut scale: u32 = 1;
     let mut place = at;
-    for group in 0..5 {
+    for group in 0..5u8 {
         if place >= file.len() {
-            return Err(NumberFault { cause: NumberCause::Ends, place: at });
+            return Err(NumberFault {
+                cause: NumberCause::Ends,
+                place: at,
+            });
         }
         let byte = file[place];
         if group == 4 && byte > 15 {
-            return Err(NumberFault { cause: NumberCause::Large, place: at });
+            break;
         }
         if byte == 0 && group > 0 {
-            return Err(NumberFault { cause: NumberCause::Padded, place: at });
+            return Err(NumberFault {
+                cause: NumberCause::Padded,
+                place: at,
+            });
         }
         value += (byte % 128) as u32 * scale;
         place += 1;
@@ -69,17 +81,20 @@ fn read_groups(file: &[u8], at: usize) -> Result<(u32, usize), NumberFault>
         }
         scale *= 128;
     }
-    Err(NumberFault { cause: NumberCause::Large, place: at })
+    Err(NumberFault {
+        cause: NumberCause::Large,
+        place: at,
+    })
 }
 
 // How many bytes `n` takes.
 pub fn number_size(n: u32) -> usize
     ensures { λ r. ⌜ r ≡ length (encode n) ⌝ }
 {
-    let mut rest = n;
+    let mut left = n;
     let mut size = 1;
-    while rest >= 128 {
-        rest /= 128;
+    while left >= 128 {
+        left /= 128;
         size += 1;
     }
     size
@@ -94,12 +109,12 @@ pub fn write_number(buf: &mut [u8], at: usize, n: u32) -> Option<usize>
         return None;
     }
     let mut rest = n;
-    let mut place = at;
+    let mut next = at;
     while rest >= 128 {
-        buf[place] = (rest % 128 + 128) as u8;
+        buf[next] = (rest % 128 + 128) as u8;
         rest /= 128;
-        place += 1;
+        next += 1;
     }
-    buf[place] = rest as u8;
-    Some(place + 1)
+    buf[next] = rest as u8;
+    Some(next + 1)
 }
