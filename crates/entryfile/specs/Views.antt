@@ -1,8 +1,10 @@
 -- What the code's values say: an entry's numbers in the order of the file, and its reference.
 use mathlib.Core.List.{List, [], _∷_, _++_}
-use Prim.Native.Nat.{ℕ, zero, suc}
+use mathlib.Core.Path.{_≡_}
+use Prim.Native.Nat.{ℕ, zero, suc, _-_}
 use lib.ListN.{length, drop}
 use denote.Ref.{RefT, now}
+use Rattle.std.specs.shelf.Lists.{between}
 use Rattle.std.specs.declared.result.Result.{Result}
 use Rattle.std.specs.declared.result.Result.the-variants.{Ok, Err}
 use Rattle.number.specs.Numbers.{Decoded, decode}
@@ -16,7 +18,7 @@ use Rattle.entryfile.specs.declared.entry.Entry.{Entry}
 use Rattle.entryfile.specs.declared.entry.Entry.the-variants.{Award, Lodge, Approve, Reject, BuyOut, Reduction, Start, Sheet, Standby, DayEnd, Test, Marking, Closing}
 use Rattle.entryfile.specs.declared.entry.Turn.{Turn}
 use Rattle.entryfile.specs.Forms.{Got}
-use Rattle.entryfile.specs.Items.{Item, item}
+use Rattle.entryfile.specs.Items.{Item, item, referenceBytes}
 
 -- outside every range: it stands for bytes that are no numbers, so that nothing accepts them
 abbrev pub unreadable : ℕ
@@ -103,3 +105,21 @@ entryView s (Err e) = Err e
 abbrev pub turnView : Result (Turn × ℕ) EntryFault → Got Item
 turnView (Ok p) = Ok (itemOf (p .0), p .1)
 turnView (Err e) = Err e
+
+-- where an entry ends at a place of a file, the figures of a sheet are the part of the file that stands just before the
+-- reference and its length
+abbrev pub FiguresStand : List ℕ → ℕ → Entry → Type 0
+FiguresStand file end (Award holder zone kind quantity icap capability t) = Unit {0}
+FiguresStand file end (Lodge award holder zone kind quantity capability t) = Unit {0}
+FiguresStand file end (Approve award t) = Unit {0}
+FiguresStand file end (Reject award t) = Unit {0}
+FiguresStand file end (BuyOut award quantity t) = Unit {0}
+FiguresStand file end (Reduction award quantity t) = Unit {0}
+FiguresStand file end (Start t) = Unit {0}
+FiguresStand file end (Sheet award family (Encoded bytes) t) = now bytes ≡ between (end - length (referenceBytes (now t)) - length (now bytes)) (end - length (referenceBytes (now t))) file
+FiguresStand file end (Sheet award family (Listed numbers) t) = ⊥
+FiguresStand file end (Standby award hour t) = Unit {0}
+FiguresStand file end (DayEnd t) = Unit {0}
+FiguresStand file end (Test award delivered t) = Unit {0}
+FiguresStand file end (Marking award sort t) = Unit {0}
+FiguresStand file end (Closing t) = Unit {0}

@@ -3,11 +3,11 @@ ghost use mathlib.Core.Path.{_≡_};
 ghost use mathlib.Core.List.{[], _∷_};
 ghost use Prim.Native.Nat.{ℕ, _≤_, _<_};
 ghost use lib.ListN.{length};
-ghost use Rattle.market.specs.Ranges.{within};
+ghost use Rattle.std.specs.Vec.{made};
 ghost use Rattle.entryfile.specs.Forms.{done};
 ghost use Rattle.entryfile.specs.Layout.{awardForm, lodgeForm, namedForm, takeOffForm, sheetForm, standbyForm, testForm, markForm, fieldsForm};
 ghost use Rattle.entryfile.specs.Items.{entryWith, entryAt};
-ghost use Rattle.entryfile.specs.Views.{entryView, turnView};
+ghost use Rattle.entryfile.specs.Views.{entryView, turnView, FiguresStand};
 use crate::entry::Entry;
 use crate::entry::Figures;
 use crate::entry::Turn;
@@ -91,7 +91,8 @@ fn read_start<'a>(file: &'a [u8], at: usize, sender: u32) -> Result<(Entry<'a>, 
 }
 
 fn read_sheet<'a>(file: &'a [u8], at: usize, sender: u32, families: &[Family]) -> Result<(Entry<'a>, usize), EntryFault>
-    ensures { λ r. ⌜ entryView sender r ≡ entryWith (8 ∷ sender ∷ []) (sheetForm (now (families .entry))) (now (file .entry)) at ⌝ }
+    ensures is { λ r. ⌜ entryView sender r ≡ entryWith (8 ∷ sender ∷ []) (sheetForm (now (families .entry))) (now (file .entry)) at ⌝ }
+    ensures figures { λ r. ⌜ made r (λ p. FiguresStand (now (file .entry)) (p .1) (p .0)) ⌝ }
 {
     let (award, at) = award_at(file, at)?;
     let (family, count, at) = family_at(file, at, families)?;
@@ -140,4 +141,38 @@ fn read_closing<'a>(file: &'a [u8], at: usize, sender: u32) -> Result<(Entry<'a>
 {
     let (reference, at) = reference_at(file, at)?;
     Ok((Entry::Closing { reference }, at))
+}
+
+// The fields and the reference of the entry with a number, from the byte after its sender on.
+fn fields_at<'a>(file: &'a [u8], at: usize, number: u32, sender: u32, zones: u32, families: &[Family]) -> Result<(Entry<'a>, usize), EntryFault>
+    requires { ⌜ 1 ≤ number ⌝ ∗ ⌜ number ≤ 13 ⌝ }
+    ensures is { λ r. ⌜ entryView sender r ≡ entryWith (number ∷ sender ∷ []) (fieldsForm zones (now (families .entry)) number) (now (file .entry)) at ⌝ }
+    ensures figures { λ r. ⌜ (number ≡ 8 → made r (λ p. FiguresStand (now (file .entry)) (p .1) (p .0))) ⌝ }
+{
+    match number {
+        1 => read_award(file, at, sender, zones),
+        2 => read_lodge(file, at, sender, zones),
+        3 => read_approve(file, at, sender),
+        4 => read_reject(file, at, sender),
+        5 => read_buy_out(file, at, sender),
+        6 => read_reduction(file, at, sender),
+        7 => read_start(file, at, sender),
+        8 => read_sheet(file, at, sender, families),
+        9 => read_standby(file, at, sender),
+        10 => read_day_end(file, at, sender),
+        11 => read_test(file, at, sender),
+        12 => read_marking(file, at, sender),
+        _ => read_closing(file, at, sender),
+    }
+}
+
+// The entry at a place with its sender, and the place after it.
+pub(crate) fn turn_at<'a>(file: &'a [u8], at: usize, zones: u32, families: &[Family]) -> Result<(Turn<'a>, usize), EntryFault>
+    ensures is { λ r. ⌜ turnView r ≡ entryAt zones (now (families .entry)) (now (file .entry)) at ⌝ }
+    ensures figures { λ r. ⌜ made r (λ p. FiguresStand (now (file .entry)) (p .1) (p .0 .entry)) ⌝ }
+{
+    let (number, next) = known_at(file, at, 13)?;
+    let (sender, next) = range_at(file, next, 0, 999)?;
+    let (entry, end) = fields_at(file, next, number, sender, zones, families)?;
+    Ok((Turn { sender, entry }, end))
 }

@@ -4,6 +4,7 @@ ghost use mathlib.Core.Bool.{true};
 ghost use Prim.Native.Nat.{ℕ, _+_, _-_, _≤_, _<_};
 ghost use lib.ListN.{length};
 ghost use Rattle.std.specs.Vec.{made};
+ghost use Rattle.std.specs.shelf.Digits.{Under};
 ghost use Rattle.std.specs.shelf.Lists.{between};
 ghost use Rattle.market.specs.Ranges.{within, every, largest};
 ghost use Rattle.market.specs.Kinds.{kindNumber, capabilityFits};
@@ -11,7 +12,7 @@ ghost use Rattle.market.specs.Families.{isFamily, figureCount};
 ghost use Rattle.entryfile.specs.declared.fault.EntryFault.the-variants.{Unknown, OutOfRange};
 ghost use Rattle.entryfile.specs.Forms.{checkedAt, formAt, endOf};
 ghost use Rattle.entryfile.specs.Layout.{figuresForm};
-ghost use Rattle.entryfile.specs.Items.{referenceAt, textAt, printable};
+ghost use Rattle.entryfile.specs.Items.{referenceAt, referenceBytes, textAt, printable};
 ghost use Rattle.entryfile.specs.Views.{kindView, markView, bytesView, figuresView, familyView};
 use crate::fault::EntryFault;
 use crate::fault::EntryFromNumber;
@@ -152,7 +153,8 @@ pub(crate) fn is_printable(text: &[u8]) -> bool
 fn text_at<'a>(file: &'a [u8], at: usize, count: usize) -> Result<(&'a [u8], usize), EntryFault>
     requires { ⌜ at ≤ length (now file) ⌝ }
     ensures is { λ r. ⌜ bytesView r ≡ textAt count (now (file .entry)) at ⌝ }
-    ensures part { λ r. ⌜ made r (λ p. (now (p .0) ≡ between at (p .1) (now (file .entry))) × (p .1 ≡ at + length (now (p .0))) × (p .1 ≤ length (now (file .entry)))) ⌝ }
+    ensures part { λ r. ⌜ made r (λ p. (length (now (p .0)) ≡ count) × (p .1 ≡ at + count) × (p .1 ≤ length (now (file .entry)))) ⌝ }
+    ensures bytes { λ _. ⌜ Under 256 (now (file .entry)) ⌝ }
 {
     if file.len() - at < count {
         return Err(EntryFault::Number(NumberFault { cause: NumberCause::Ends, place: at }));
@@ -167,7 +169,7 @@ fn text_at<'a>(file: &'a [u8], at: usize, count: usize) -> Result<(&'a [u8], usi
 // A reference: its length of 0 to 32, and so many printable characters, as a part of the file.
 pub(crate) fn reference_at<'a>(file: &'a [u8], at: usize) -> Result<(&'a [u8], usize), EntryFault>
     ensures is { λ r. ⌜ bytesView r ≡ referenceAt (now (file .entry)) at ⌝ }
-    ensures part { λ r. ⌜ made r (λ p. (now (p .0) ≡ between (p .1 - length (now (p .0))) (p .1) (now (file .entry))) × (p .1 ≤ length (now (file .entry)))) ⌝ }
+    ensures part { λ r. ⌜ made r (λ p. (p .1 ≡ at + length (referenceBytes (now (p .0)))) × (p .1 ≤ length (now (file .entry)))) ⌝ }
 {
     let (count, next) = range_at(file, at, 0, 32)?;
     text_at(file, next, count as usize)

@@ -1,7 +1,13 @@
 use native.Mathlib.Omega.{arith}
 use mathlib.Core.Path.{refl}
 use Rattle.number.proofs.Codec.{under-bytes}
+use Rattle.entryfile.proofs.Spelled.{figures-part}
 use Rattle.entryfile.proofs.fields.figures_at.Needs as need
 
 pub returns : need.returns
-returns c = record { is = ?; part = (refl, c .in-Continue-end .ensures tt .ahead .0, c .in-Continue-end .ensures tt .ahead .1) }
+returns c =
+    let told = c .in-Continue-end .ensures tt in
+    record {
+      is = figures-part (c .args .count) (c .args .file .now) (c .args .at) (c .in-Continue-end .end) (under-bytes _ (λ i. omega (arith, c .typed .file i))) (c .pre) (told .is);
+      part = (refl, told .ahead .0, told .ahead .1);
+    }

@@ -2,8 +2,8 @@ use mathlib.Core.Path.{_≡_, sym, ap, _∙_}
 use Rattle.std.proofs.shelf.Results.{made-from-err, made-weaker}
 use Rattle.entryfile.specs.Items.{afterLength}
 use Rattle.entryfile.specs.Views.{bytesView}
-use Rattle.entryfile.proofs.Checks.{exit}
-use Rattle.entryfile.proofs.Places.{from-its-end}
+use Rattle.entryfile.proofs.Checks.{exit, check-number}
+use Rattle.entryfile.proofs.Places.{number-size, reference-ends}
 use Rattle.entryfile.proofs.fields.reference_at.Needs as need
 
 pub returns-in-Break-count : need.returns-in-Break-count
@@ -11,7 +11,9 @@ returns-in-Break-count c = record { is = ap bytesView (exit _ (c .from-residual 
 
 pub returns : need.returns
 returns c =
+    let told = c .in-Continue-count .ensures tt .is in
+    let size = number-size (c .args .file .now) (c .args .at) (c .text-at .ensures .bytes) (check-number _ _ _ _ told) in
     record {
-      is = c .text-at .ensures .is ∙ ap (afterLength (c .args .file .now)) (c .in-Continue-count .ensures tt .is);
-      part = made-weaker (c .text-at .result) _ _ (λ p w. (from-its-end (c .args .file .now) _ _ _ (w .0) (w .1), w .2)) (c .text-at .ensures .part);
+      is = c .text-at .ensures .is ∙ ap (afterLength (c .args .file .now)) told;
+      part = made-weaker (c .text-at .result) _ _ (λ p w. (reference-ends _ _ _ _ _ (w .0) size (w .1), w .2)) (c .text-at .ensures .part);
     }
