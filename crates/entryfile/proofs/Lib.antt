@@ -4,4 +4,9 @@ pub mod Places
 pub mod Stepwise
 pub mod Standing
 pub mod Writing
+pub mod Reading
 pub mod Spelled
+pub mod Sequence
+pub mod Ranged
+pub mod Opened
+pub mod Handed

@@ -17,7 +17,7 @@ length-part file at n h =
     let k : at + n - at ≡ n = omega arith in
     rw k (length-take-le n (drop at file) (omega (arith, length-drop at file)))
 
-length-between : (file : List ℕ) (at end : ℕ) → at ≤ end → end ≤ length file → length (between at end file) ≡ end - at
+pub length-between : (file : List ℕ) (at end : ℕ) → at ≤ end → end ≤ length file → length (between at end file) ≡ end - at
 length-between file at end h w = length-take-le (end - at) (drop at file) (omega (arith, length-drop at file))
 
 -- a number ends as many bytes further on as it has

@@ -19,10 +19,13 @@ number test rest = field OutOfRange test rest
 abbrev pub versionForm : Form → Form
 versionForm rest = field Unknown (within 1 1) (λ _. rest)
 
--- days and factor, month by month
+-- business days and factor of a month
+abbrev pub monthForm : Form → Form
+monthForm rest = number (within 1 23) (λ days. number (within 1 100) (λ factor. rest))
+
 abbrev pub monthsForm : ℕ → Form → Form
 monthsForm zero rest = rest
-monthsForm (suc k) rest = number (within 1 23) (λ _. number (within 1 100) (λ _. monthsForm k rest))
+monthsForm (suc k) rest = monthForm (monthsForm k rest)
 
 -- a price for each zone
 abbrev pub pricesForm : ℕ → Form → Form

@@ -8,6 +8,7 @@ ghost use Rattle.entryfile.specs.Forms.{done};
 ghost use Rattle.entryfile.specs.Layout.{awardForm, lodgeForm, namedForm, takeOffForm, sheetForm, standbyForm, testForm, markForm, fieldsForm};
 ghost use Rattle.entryfile.specs.Items.{entryWith, entryAt};
 ghost use Rattle.entryfile.specs.Views.{entryView, turnView, FiguresStand};
+ghost use Rattle.entryfile.specs.Steps.{FromFile};
 use crate::entry::Entry;
 use crate::entry::Figures;
 use crate::entry::Turn;
@@ -166,8 +167,8 @@ fn fields_at<'a>(file: &'a [u8], at: usize, number: u32, sender: u32, zones: u32
     }
 }
 
-// The entry at a place with its sender, and the place after it.
-pub(crate) fn turn_at<'a>(file: &'a [u8], at: usize, zones: u32, families: &[Family]) -> Result<(Turn<'a>, usize), EntryFault>
+// The entry at a place with its sender, and the place after it, part by part.
+fn turn_by_parts<'a>(file: &'a [u8], at: usize, zones: u32, families: &[Family]) -> Result<(Turn<'a>, usize), EntryFault>
     ensures is { λ r. ⌜ turnView r ≡ entryAt zones (now (families .entry)) (now (file .entry)) at ⌝ }
     ensures figures { λ r. ⌜ made r (λ p. FiguresStand (now (file .entry)) (p .1) (p .0 .entry)) ⌝ }
 {
@@ -175,4 +176,13 @@ pub(crate) fn turn_at<'a>(file: &'a [u8], at: usize, zones: u32, families: &[Fam
     let (sender, next) = range_at(file, next, 0, 999)?;
     let (entry, end) = fields_at(file, next, number, sender, zones, families)?;
     Ok((Turn { sender, entry }, end))
+}
+
+// The entry at a place with its sender, and the place after it. What was read can be written again, byte for byte.
+pub(crate) fn turn_at<'a>(file: &'a [u8], at: usize, zones: u32, families: &[Family]) -> Result<(Turn<'a>, usize), EntryFault>
+    requires { ⌜ at ≤ length (now file) ⌝ }
+    ensures is { λ r. ⌜ turnView r ≡ entryAt zones (now (families .entry)) (now (file .entry)) at ⌝ }
+    ensures handed { λ r. ⌜ made r (λ p. FromFile zones (now (families .entry)) (now (file .entry)) at (p .1) (p .0)) ⌝ }
+{
+    turn_by_parts(file, at, zones, families)
 }

@@ -1,4 +1,6 @@
 // The thirteen entries. Their figures and references are parts of the file that they were read from.
+ghost use mathlib.Core.Path.{_≡_};
+ghost use Rattle.entryfile.specs.Views.{referenceOf};
 use market::Kind;
 use market::Mark;
 
@@ -25,6 +27,29 @@ pub enum Entry<'a> {
     Test { award: u32, delivered: u32, reference: &'a [u8] },
     Marking { award: u32, sort: Mark, reference: &'a [u8] },
     Closing { reference: &'a [u8] },
+}
+
+impl<'a> Entry<'a> {
+    // The entry's reference.
+    pub fn reference(&self) -> &'a [u8]
+        ensures { λ r. ⌜ now r ≡ referenceOf (now (self .entry)) ⌝ }
+    {
+        match self {
+            Entry::Award { reference, .. } => reference,
+            Entry::Lodge { reference, .. } => reference,
+            Entry::Approve { reference, .. } => reference,
+            Entry::Reject { reference, .. } => reference,
+            Entry::BuyOut { reference, .. } => reference,
+            Entry::Reduction { reference, .. } => reference,
+            Entry::Start { reference } => reference,
+            Entry::Sheet { reference, .. } => reference,
+            Entry::Standby { reference, .. } => reference,
+            Entry::DayEnd { reference } => reference,
+            Entry::Test { reference, .. } => reference,
+            Entry::Marking { reference, .. } => reference,
+            Entry::Closing { reference } => reference,
+        }
+    }
 }
 
 // An entry with its sender: 0 is the operator, 1 to 999 are holders.

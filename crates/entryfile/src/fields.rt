@@ -107,10 +107,9 @@ pub(crate) fn family_at(file: &[u8], at: usize, families: &[Family]) -> Result<(
 }
 
 // The place after so many figures.
-pub(crate) fn figures_end(file: &[u8], at: usize, count: usize) -> Result<usize, EntryFault>
-    requires { ⌜ at ≤ length (now file) ⌝ }
+pub fn figures_end(file: &[u8], at: usize, count: usize) -> Result<usize, EntryFault>
     ensures is { λ r. ⌜ r ≡ endOf (formAt (figuresForm count) (now (file .entry)) at) ⌝ }
-    ensures ahead { λ r. ⌜ made r (λ p. (at ≤ p) × (p ≤ length (now (file .entry)))) ⌝ }
+    ensures ahead { λ r. ⌜ (at ≤ length (now (file .entry)) → made r (λ p. (at ≤ p) × (p ≤ length (now (file .entry))))) ⌝ }
 {
     let mut next = at;
     for _figure in 0..count {
@@ -138,7 +137,7 @@ fn is_printable_byte(byte: u8) -> bool
 }
 
 // Whether every byte is printable.
-pub(crate) fn is_printable(text: &[u8]) -> bool
+pub fn is_printable(text: &[u8]) -> bool
     ensures { λ r. ⌜ r ≡ every printable (now (text .entry)) ⌝ }
 {
     for byte in text {

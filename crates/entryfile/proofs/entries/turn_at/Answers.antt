@@ -1,10 +1,12 @@
-use mathlib.Core.Path.{sym, ap, _∙_}
 use native.Mathlib.Omega.{arith}
-use Rattle.std.proofs.shelf.Tests.{and-parts, leb-true}
-use Rattle.entryfile.proofs.Checks.{check-passed}
+use Rattle.number.proofs.Codec.{under-bytes}
+use Rattle.entryfile.proofs.Handed.{handed}
 use Rattle.entryfile.proofs.entries.turn_at.Needs as need
 
-pub fields-at-requires : need.fields-at-requires
-fields-at-requires c κs =
-    let p = and-parts _ _ (check-passed _ _ _ _ (c .in-Continue-number .ensures tt .is)) in
-    (leb-true _ _ (p .0), leb-true _ _ (p .1))
+pub returns : need.returns
+returns c =
+    let told = c .turn-by-parts .ensures in
+    record {
+      is = told .is;
+      handed = handed (c .args .zones) (c .args .families .now) (c .args .file .now) (c .args .at) (under-bytes _ (λ i. omega (arith, c .typed .file i))) (c .pre) (c .turn-by-parts .result) (told .is) (told .figures);
+    }

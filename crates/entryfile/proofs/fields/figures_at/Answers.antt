@@ -9,5 +9,5 @@ returns c =
     let told = c .in-Continue-end .ensures tt in
     record {
       is = figures-part (c .args .count) (c .args .file .now) (c .args .at) (c .in-Continue-end .end) (under-bytes _ (λ i. omega (arith, c .typed .file i))) (c .pre) (told .is);
-      part = (refl, told .ahead .0, told .ahead .1);
+      part = (refl, told .ahead (c .pre) .0, told .ahead (c .pre) .1);
     }
