@@ -1,0 +1,142 @@
+// The whole report on an entry file, line by line.
+use crate::figures::figures_text;
+use crate::input::whole_input;
+use crate::lines::fault_text;
+use crate::lines::fields_text;
+use crate::lines::heading_text;
+use crate::words::Tenths;
+use crate::words::TenthsDisplay;
+use entryfile::Entry;
+use entryfile::Figures;
+use entryfile::Reader;
+use entryfile::Turn;
+use entryfile::read_head;
+use market::Family;
+use market::Opening;
+use std::io;
+use std::str;
+
+// The months of the period.
+fn print_months(rt: &LibcRuntime, opening: &Opening) -> io::Result<()> {
+    for (i, month) in opening.months().iter().enumerate() {
+        let number = i.saturating_add(1);
+        let days = month.days;
+        let factor = Tenths(month.factor);
+        println!(rt, "  month {number}: business days {days}, factor {factor}")?;
+    }
+    Ok(())
+}
+
+// The zones and their prices.
+fn print_zones(rt: &LibcRuntime, opening: &Opening) -> io::Result<()> {
+    for (i, price) in opening.prices().iter().enumerate() {
+        let number = i.saturating_add(1);
+        println!(rt, "  zone {number}: price {price} cents for a megawatt-hour")?;
+    }
+    Ok(())
+}
+
+// The opening in plain words.
+fn print_opening(rt: &LibcRuntime, opening: &Opening) -> io::Result<()> {
+    let first = opening.first_hour();
+    let last = opening.last_hour();
+    let rate = opening.buyout_rate();
+    let mark = opening.pass_mark();
+    println!(rt, "Opening, version 1")?;
+    print_months(rt, opening)?;
+    println!(rt, "  availability window: hours {first} to {last}")?;
+    print_zones(rt, opening)?;
+    println!(rt, "  buy-out rate: {rate} percent")?;
+    println!(rt, "  pass mark of a capacity test: {mark} percent")
+}
+
+// A reference as text.
+fn print_reference(rt: &LibcRuntime, reference: &[u8]) -> io::Result<()> {
+    if reference.is_empty() {
+        return println!(rt, "  no reference");
+    }
+    match str::from_utf8(reference) {
+        Ok(text) => println!(rt, "  reference: {text}"),
+        Err(_) => println!(rt, "  reference: not text"),
+    }
+}
+
+// How many figures an hour a family's sheets have.
+fn figures_per_hour(families: &[Family], number: u32) -> u8 {
+    for family in families {
+        if family.number == number {
+            return family.figures_per_hour;
+        }
+    }
+    0
+}
+
+// The figures of a sheet, if the entry is one.
+fn print_figures(rt: &LibcRuntime, entry: &Entry, families: &[Family]) -> io::Result<()> {
+    if let Entry::Sheet { family, figures: Figures::Encoded(bytes), .. } = *entry {
+        let text = figures_text(rt.alloc(), bytes, figures_per_hour(families, family))?;
+        println!(rt, "  figures in MW:")?;
+        return print!(rt, "{text}");
+    }
+    Ok(())
+}
+
+// One entry: count, place, name and sender, then its fields, its figures and its reference.
+fn print_entry(rt: &LibcRuntime, count: usize, place: usize, turn: &Turn, families: &[Family]) -> io::Result<()> {
+    let heading = heading_text(rt.alloc(), count, place, turn)?;
+    let fields = fields_text(rt.alloc(), &turn.entry)?;
+    println!(rt, "{heading}")?;
+    println!(rt, "  {fields}")?;
+    print_figures(rt, &turn.entry, families)?;
+    print_reference(rt, turn.entry.reference())
+}
+
+// The entries up to the end of the file or the first fault, and how many were read whole.
+fn print_entries(rt: &LibcRuntime, file: &[u8], families: &[Family], mut reader: Reader) -> io::Result<()> {
+    for _turn in 0..file.len() {
+        let place = reader.place();
+        match reader.next_entry() {
+            Ok(Some(turn)) => print_entry(rt, reader.entries(), place, &turn, families)?,
+            Ok(None) => break,
+            Err(fault) => {
+                let text = fault_text(rt.alloc(), fault)?;
+                println!(rt, "Fault: {text} The entry begins at byte {place}.")?;
+                break;
+            }
+        }
+    }
+    let entries = reader.entries();
+    println!(rt, "Entries read whole: {entries}")
+}
+
+// The report on a file of at most 65,536 bytes.
+pub fn inspect<'a>(rt: &LibcRuntime, file: &'a [u8], families: &'a [Family]) -> io::Result<()> {
+    let size = file.len();
+    println!(rt, "Entry file of {size} bytes")?;
+    match read_head(file) {
+        Ok(head) => {
+            print_opening(rt, &head.opening)?;
+            print_entries(rt, file, families, Reader::new(file, families, head))
+        }
+        Err(fault) => {
+            let text = fault_text(rt.alloc(), fault)?;
+            println!(rt, "Fault: {text}")?;
+            println!(rt, "Entries read whole: 0")
+        }
+    }
+}
+
+// The families that a book has today: their numbers, and the figures of an hour record.
+const FAMILIES: [Family; 3] = [
+    Family { number: 1, figures_per_hour: 3 },
+    Family { number: 2, figures_per_hour: 3 },
+    Family { number: 3, figures_per_hour: 5 },
+];
+
+// Reads a file from standard input and reports on it; a longer input is reported as too long.
+pub fn run(rt: &LibcRuntime) -> io::Result<()> {
+    match whole_input(rt)? {
+        Some(file) => inspect(rt, file.as_slice(), &FAMILIES),
+        None => println!(rt, "The input is too long: an entry file has at most 65536 bytes. Nothing was read."),
+    }
+}
