@@ -53,25 +53,4 @@ impl<'a> Reader<'a> {
             Err(fault) => Err(fault.in_entry(self.entries + 1)),
         }
     }
-
-    // The opening of the file.
-    pub fn opening(&self) -> Opening
-        ensures { λ r. ⌜ r ≡ now (self .entry) .opening ⌝ }
-    {
-        self.opening
-    }
-
-    // The byte where the next entry begins.
-    pub fn place(&self) -> usize
-        ensures { λ r. ⌜ r ≡ now (self .entry) .place ⌝ }
-    {
-        self.place
-    }
-
-    // How many entries were read whole.
-    pub fn entries(&self) -> usize
-        ensures { λ r. ⌜ r ≡ now (self .entry) .entries ⌝ }
-    {
-        self.entries
-    }
 }

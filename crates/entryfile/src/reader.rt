@@ -1,4 +1,5 @@
 // A reader over the bytes of a file.
+ghost use mathlib.Core.Path.{_≡_};
 ghost use Prim.Native.Nat.{_≤_};
 ghost use denote.Ref.{now as held};
 ghost use lib.ListN.{length};
@@ -16,4 +17,20 @@ pub struct Reader<'a> {
     pub(crate) entries: usize,
     ghost within: { place ≤ length (held file) },
     ghost few: { entries ≤ place },
+}
+
+impl Reader<'_> {
+    // The byte where the next entry begins.
+    pub fn place(&self) -> usize
+        ensures { λ r. ⌜ r ≡ now (self .entry) .place ⌝ }
+    {
+        self.place
+    }
+
+    // How many entries were read whole.
+    pub fn entries(&self) -> usize
+        ensures { λ r. ⌜ r ≡ now (self .entry) .entries ⌝ }
+    {
+        self.entries
+    }
 }

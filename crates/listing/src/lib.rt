@@ -1,21 +1,7 @@
-// What `inspect` says of an entry file: its opening, its entries one by one, and the first fault, in plain words.
+// The report of `inspect` on an entry file: its opening, its entries one by one, and the first fault, in plain words.
 mod figures;
 mod input;
-mod lines;
 mod report;
-mod words;
-pub use figures::figures_text;
 pub use input::whole_input;
-pub use lines::fault_text;
-pub use lines::fields_text;
-pub use lines::heading_text;
 pub use report::inspect;
 pub use report::run;
-pub use words::Megawatts;
-pub use words::MegawattsDisplay;
-pub use words::Tenths;
-pub use words::TenthsDisplay;
-pub use words::cause_meaning;
-pub use words::entry_name;
-pub use words::kind_name;
-pub use words::mark_name;

@@ -1,20 +1,22 @@
 // The whole report on an entry file, line by line.
-use crate::figures::figures_text;
+use crate::figures::figure_lines;
 use crate::input::whole_input;
-use crate::lines::fault_text;
-use crate::lines::fields_text;
-use crate::lines::heading_text;
-use crate::words::Tenths;
-use crate::words::TenthsDisplay;
 use entryfile::Entry;
 use entryfile::Figures;
 use entryfile::Reader;
 use entryfile::Turn;
 use entryfile::read_head;
 use market::Family;
+use market::Fault;
 use market::Opening;
+use market::figures_in_sheet;
 use std::io;
 use std::str;
+use wording::Tenths;
+use wording::TenthsDisplay;
+use wording::fault_text;
+use wording::fields_text;
+use wording::heading_text;
 
 // The months of the period.
 fn print_months(rt: &LibcRuntime, opening: &Opening) -> io::Result<()> {
@@ -61,22 +63,13 @@ fn print_reference(rt: &LibcRuntime, reference: &[u8]) -> io::Result<()> {
     }
 }
 
-// How many figures an hour a family's sheets have.
-fn figures_per_hour(families: &[Family], number: u32) -> u8 {
-    for family in families {
-        if family.number == number {
-            return family.figures_per_hour;
-        }
-    }
-    0
-}
-
 // The figures of a sheet, if the entry is one.
 fn print_figures(rt: &LibcRuntime, entry: &Entry, families: &[Family]) -> io::Result<()> {
     if let Entry::Sheet { family, figures: Figures::Encoded(bytes), .. } = *entry {
-        let text = figures_text(rt.alloc(), bytes, figures_per_hour(families, family))?;
-        println!(rt, "  figures in MW:")?;
-        return print!(rt, "{text}");
+        let count = figures_in_sheet(families, family).unwrap_or(0);
+        let lines = figure_lines(rt.alloc(), bytes, count / 24)?;
+        println!(rt, "  figures: {count}, in MW")?;
+        return print!(rt, "{lines}");
     }
     Ok(())
 }
@@ -91,22 +84,35 @@ fn print_entry(rt: &LibcRuntime, count: usize, place: usize, turn: &Turn, famili
     print_reference(rt, turn.entry.reference())
 }
 
+// What the reader met last: the end of the file, or a fault.
+fn print_end(rt: &LibcRuntime, reader: &Reader, fault: Option<Fault>) -> io::Result<()> {
+    let place = reader.place();
+    let entries = reader.entries();
+    match fault {
+        Some(fault) => {
+            let text = fault_text(rt.alloc(), fault)?;
+            println!(rt, "FAULT. {text} The entry itself begins at byte {place}.")?;
+        }
+        None => println!(rt, "No fault was found.")?,
+    }
+    println!(rt, "Entries read whole: {entries}")
+}
+
 // The entries up to the end of the file or the first fault, and how many were read whole.
 fn print_entries(rt: &LibcRuntime, file: &[u8], families: &[Family], mut reader: Reader) -> io::Result<()> {
+    let mut met = None;
     for _turn in 0..file.len() {
         let place = reader.place();
         match reader.next_entry() {
             Ok(Some(turn)) => print_entry(rt, reader.entries(), place, &turn, families)?,
             Ok(None) => break,
             Err(fault) => {
-                let text = fault_text(rt.alloc(), fault)?;
-                println!(rt, "Fault: {text} The entry begins at byte {place}.")?;
+                met = Some(fault);
                 break;
             }
         }
     }
-    let entries = reader.entries();
-    println!(rt, "Entries read whole: {entries}")
+    print_end(rt, &reader, met)
 }
 
 // The report on a file of at most 65,536 bytes.
@@ -120,7 +126,7 @@ pub fn inspect<'a>(rt: &LibcRuntime, file: &'a [u8], families: &'a [Family]) -> 
         }
         Err(fault) => {
             let text = fault_text(rt.alloc(), fault)?;
-            println!(rt, "Fault: {text}")?;
+            println!(rt, "FAULT. {text}")?;
             println!(rt, "Entries read whole: 0")
         }
     }
