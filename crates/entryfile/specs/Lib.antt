@@ -7,3 +7,4 @@ pub mod Heads
 pub mod Laws
 pub mod Steps
 pub mod Readers
+pub mod Surveys

@@ -3,11 +3,13 @@ use crate::figures::figure_lines;
 use crate::input::whole_input;
 use entryfile::Entry;
 use entryfile::Figures;
+use entryfile::Head;
 use entryfile::Reader;
+use entryfile::Survey;
 use entryfile::Turn;
 use entryfile::read_head;
+use entryfile::read_through;
 use market::Family;
-use market::Fault;
 use market::Opening;
 use market::figures_in_sheet;
 use std::io;
@@ -84,11 +86,11 @@ fn print_entry(rt: &LibcRuntime, count: usize, place: usize, turn: &Turn, famili
     print_reference(rt, turn.entry.reference())
 }
 
-// What the reader met last: the end of the file, or a fault.
-fn print_end(rt: &LibcRuntime, reader: &Reader, fault: Option<Fault>) -> io::Result<()> {
-    let place = reader.place();
-    let entries = reader.entries();
-    match fault {
+// What ended the reading, the end of the file or a fault in the entry that begins at a place, and how many entries were
+// read whole.
+fn print_end(rt: &LibcRuntime, place: usize, survey: Survey) -> io::Result<()> {
+    let entries = survey.entries;
+    match survey.fault {
         Some(fault) => {
             let text = fault_text(rt.alloc(), fault)?;
             println!(rt, "FAULT. {text} The entry itself begins at byte {place}.")?;
@@ -98,21 +100,18 @@ fn print_end(rt: &LibcRuntime, reader: &Reader, fault: Option<Fault>) -> io::Res
     println!(rt, "Entries read whole: {entries}")
 }
 
-// The entries up to the end of the file or the first fault, and how many were read whole.
-fn print_entries(rt: &LibcRuntime, file: &[u8], families: &[Family], mut reader: Reader) -> io::Result<()> {
-    let mut met = None;
+// The entries one by one, up to the end of the file or the first fault; returns the place where the reader stops.
+fn print_entries<'a>(rt: &LibcRuntime, file: &'a [u8], families: &'a [Family], head: Head) -> io::Result<usize> {
+    let mut reader = Reader::new(file, families, head);
     for _turn in 0..file.len() {
         let place = reader.place();
         match reader.next_entry() {
             Ok(Some(turn)) => print_entry(rt, reader.entries(), place, &turn, families)?,
             Ok(None) => break,
-            Err(fault) => {
-                met = Some(fault);
-                break;
-            }
+            Err(_) => break,
         }
     }
-    print_end(rt, &reader, met)
+    Ok(reader.place())
 }
 
 // The report on a file of at most 65,536 bytes.
@@ -122,7 +121,8 @@ pub fn inspect<'a>(rt: &LibcRuntime, file: &'a [u8], families: &'a [Family]) -> 
     match read_head(file) {
         Ok(head) => {
             print_opening(rt, &head.opening)?;
-            print_entries(rt, file, families, Reader::new(file, families, head))
+            let place = print_entries(rt, file, families, head)?;
+            print_end(rt, place, read_through(file, families, head))
         }
         Err(fault) => {
             let text = fault_text(rt.alloc(), fault)?;
