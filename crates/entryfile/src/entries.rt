@@ -24,7 +24,12 @@ use crate::fields::reference_at;
 use crate::fields::sort_at;
 use market::Family;
 
-fn read_award<'a>(file: &'a [u8], at: usize, sender: u32, zones: u32) -> Result<(Entry<'a>, usize), EntryFault>
+fn read_award<'a>(
+    file: &'a [u8],
+    at: usize,
+    sender: u32,
+    zones: u32,
+) -> Result<(Entry<'a>, usize), EntryFault>
     ensures { λ r. ⌜ entryView sender r ≡ entryWith (1 ∷ sender ∷ []) (awardForm zones) (now (file .entry)) at ⌝ }
 {
     let (holder, at) = range_at(file, at, 1, 999)?;
@@ -34,10 +39,26 @@ fn read_award<'a>(file: &'a [u8], at: usize, sender: u32, zones: u32) -> Result<
     let (cleared_icap, at) = range_at(file, at, quantity, 100_000)?;
     let (capability, at) = capability_at(file, at, kind)?;
     let (reference, at) = reference_at(file, at)?;
-    Ok((Entry::Award { holder, zone, kind, quantity, cleared_icap, capability, reference }, at))
+    Ok((
+        Entry::Award {
+            holder,
+            zone,
+            kind,
+            quantity,
+            cleared_icap,
+            capability,
+            reference,
+        },
+        at,
+    ))
 }
 
-fn read_lodge<'a>(file: &'a [u8], at: usize, sender: u32, zones: u32) -> Result<(Entry<'a>, usize), EntryFault>
+fn read_lodge<'a>(
+    file: &'a [u8],
+    at: usize,
+    sender: u32,
+    zones: u32,
+) -> Result<(Entry<'a>, usize), EntryFault>
     ensures { λ r. ⌜ entryView sender r ≡ entryWith (2 ∷ sender ∷ []) (lodgeForm zones) (now (file .entry)) at ⌝ }
 {
     let (award, at) = award_at(file, at)?;
@@ -47,10 +68,25 @@ fn read_lodge<'a>(file: &'a [u8], at: usize, sender: u32, zones: u32) -> Result<
     let (quantity, at) = range_at(file, at, 10, 100_000)?;
     let (capability, at) = capability_at(file, at, kind)?;
     let (reference, at) = reference_at(file, at)?;
-    Ok((Entry::Lodge { award, new_holder, zone, kind, quantity, capability, reference }, at))
+    Ok((
+        Entry::Lodge {
+            award,
+            new_holder,
+            zone,
+            kind,
+            quantity,
+            capability,
+            reference,
+        },
+        at,
+    ))
 }
 
-fn read_approve<'a>(file: &'a [u8], at: usize, sender: u32) -> Result<(Entry<'a>, usize), EntryFault>
+fn read_approve<'a>(
+    file: &'a [u8],
+    at: usize,
+    sender: u32,
+) -> Result<(Entry<'a>, usize), EntryFault>
     ensures { λ r. ⌜ entryView sender r ≡ entryWith (3 ∷ sender ∷ []) namedForm (now (file .entry)) at ⌝ }
 {
     let (award, at) = award_at(file, at)?;
@@ -66,22 +102,44 @@ fn read_reject<'a>(file: &'a [u8], at: usize, sender: u32) -> Result<(Entry<'a>,
     Ok((Entry::Reject { award, reference }, at))
 }
 
-fn read_buy_out<'a>(file: &'a [u8], at: usize, sender: u32) -> Result<(Entry<'a>, usize), EntryFault>
+fn read_buy_out<'a>(
+    file: &'a [u8],
+    at: usize,
+    sender: u32,
+) -> Result<(Entry<'a>, usize), EntryFault>
     ensures { λ r. ⌜ entryView sender r ≡ entryWith (5 ∷ sender ∷ []) takeOffForm (now (file .entry)) at ⌝ }
 {
     let (award, at) = award_at(file, at)?;
     let (quantity, at) = range_at(file, at, 1, 100_000)?;
     let (reference, at) = reference_at(file, at)?;
-    Ok((Entry::BuyOut { award, quantity, reference }, at))
+    Ok((
+        Entry::BuyOut {
+            award,
+            quantity,
+            reference,
+        },
+        at,
+    ))
 }
 
-fn read_reduction<'a>(file: &'a [u8], at: usize, sender: u32) -> Result<(Entry<'a>, usize), EntryFault>
+fn read_reduction<'a>(
+    file: &'a [u8],
+    at: usize,
+    sender: u32,
+) -> Result<(Entry<'a>, usize), EntryFault>
     ensures { λ r. ⌜ entryView sender r ≡ entryWith (6 ∷ sender ∷ []) takeOffForm (now (file .entry)) at ⌝ }
 {
     let (award, at) = award_at(file, at)?;
     let (quantity, at) = range_at(file, at, 1, 100_000)?;
     let (reference, at) = reference_at(file, at)?;
-    Ok((Entry::Reduction { award, quantity, reference }, at))
+    Ok((
+        Entry::Reduction {
+            award,
+            quantity,
+            reference,
+        },
+        at,
+    ))
 }
 
 fn read_start<'a>(file: &'a [u8], at: usize, sender: u32) -> Result<(Entry<'a>, usize), EntryFault>
@@ -91,7 +149,12 @@ fn read_start<'a>(file: &'a [u8], at: usize, sender: u32) -> Result<(Entry<'a>, 
     Ok((Entry::Start { reference }, at))
 }
 
-fn read_sheet<'a>(file: &'a [u8], at: usize, sender: u32, families: &[Family]) -> Result<(Entry<'a>, usize), EntryFault>
+fn read_sheet<'a>(
+    file: &'a [u8],
+    at: usize,
+    sender: u32,
+    families: &[Family],
+) -> Result<(Entry<'a>, usize), EntryFault>
     ensures is { λ r. ⌜ entryView sender r ≡ entryWith (8 ∷ sender ∷ []) (sheetForm (now (families .entry))) (now (file .entry)) at ⌝ }
     ensures figures { λ r. ⌜ made r (λ p. FiguresStand (now (file .entry)) (p .1) (p .0)) ⌝ }
 {
@@ -100,19 +163,42 @@ fn read_sheet<'a>(file: &'a [u8], at: usize, sender: u32, families: &[Family]) -
     let (figures, at) = figures_at(file, at, count)?;
     let figures = Figures::Encoded(figures);
     let (reference, at) = reference_at(file, at)?;
-    Ok((Entry::Sheet { award, family, figures, reference }, at))
+    Ok((
+        Entry::Sheet {
+            award,
+            family,
+            figures,
+            reference,
+        },
+        at,
+    ))
 }
 
-fn read_standby<'a>(file: &'a [u8], at: usize, sender: u32) -> Result<(Entry<'a>, usize), EntryFault>
+fn read_standby<'a>(
+    file: &'a [u8],
+    at: usize,
+    sender: u32,
+) -> Result<(Entry<'a>, usize), EntryFault>
     ensures { λ r. ⌜ entryView sender r ≡ entryWith (9 ∷ sender ∷ []) standbyForm (now (file .entry)) at ⌝ }
 {
     let (award, at) = award_at(file, at)?;
     let (hour, at) = range_at(file, at, 1, 24)?;
     let (reference, at) = reference_at(file, at)?;
-    Ok((Entry::Standby { award, hour, reference }, at))
+    Ok((
+        Entry::Standby {
+            award,
+            hour,
+            reference,
+        },
+        at,
+    ))
 }
 
-fn read_day_end<'a>(file: &'a [u8], at: usize, sender: u32) -> Result<(Entry<'a>, usize), EntryFault>
+fn read_day_end<'a>(
+    file: &'a [u8],
+    at: usize,
+    sender: u32,
+) -> Result<(Entry<'a>, usize), EntryFault>
     ensures { λ r. ⌜ entryView sender r ≡ entryWith (10 ∷ sender ∷ []) done (now (file .entry)) at ⌝ }
 {
     let (reference, at) = reference_at(file, at)?;
@@ -125,19 +211,41 @@ fn read_test<'a>(file: &'a [u8], at: usize, sender: u32) -> Result<(Entry<'a>, u
     let (award, at) = award_at(file, at)?;
     let (delivered, at) = range_at(file, at, 0, 100_000)?;
     let (reference, at) = reference_at(file, at)?;
-    Ok((Entry::Test { award, delivered, reference }, at))
+    Ok((
+        Entry::Test {
+            award,
+            delivered,
+            reference,
+        },
+        at,
+    ))
 }
 
-fn read_marking<'a>(file: &'a [u8], at: usize, sender: u32) -> Result<(Entry<'a>, usize), EntryFault>
+fn read_marking<'a>(
+    file: &'a [u8],
+    at: usize,
+    sender: u32,
+) -> Result<(Entry<'a>, usize), EntryFault>
     ensures { λ r. ⌜ entryView sender r ≡ entryWith (12 ∷ sender ∷ []) markForm (now (file .entry)) at ⌝ }
 {
     let (award, at) = award_at(file, at)?;
     let (sort, at) = sort_at(file, at)?;
     let (reference, at) = reference_at(file, at)?;
-    Ok((Entry::Marking { award, sort, reference }, at))
+    Ok((
+        Entry::Marking {
+            award,
+            sort,
+            reference,
+        },
+        at,
+    ))
 }
 
-fn read_closing<'a>(file: &'a [u8], at: usize, sender: u32) -> Result<(Entry<'a>, usize), EntryFault>
+fn read_closing<'a>(
+    file: &'a [u8],
+    at: usize,
+    sender: u32,
+) -> Result<(Entry<'a>, usize), EntryFault>
     ensures { λ r. ⌜ entryView sender r ≡ entryWith (13 ∷ sender ∷ []) done (now (file .entry)) at ⌝ }
 {
     let (reference, at) = reference_at(file, at)?;
@@ -145,7 +253,14 @@ fn read_closing<'a>(file: &'a [u8], at: usize, sender: u32) -> Result<(Entry<'a>
 }
 
 // The fields and the reference of the entry with a number, from the byte after its sender on.
-fn fields_at<'a>(file: &'a [u8], at: usize, number: u32, sender: u32, zones: u32, families: &[Family]) -> Result<(Entry<'a>, usize), EntryFault>
+fn fields_at<'a>(
+    file: &'a [u8],
+    at: usize,
+    number: u32,
+    sender: u32,
+    zones: u32,
+    families: &[Family],
+) -> Result<(Entry<'a>, usize), EntryFault>
     requires { ⌜ 1 ≤ number ⌝ ∗ ⌜ number ≤ 13 ⌝ }
     ensures is { λ r. ⌜ entryView sender r ≡ entryWith (number ∷ sender ∷ []) (fieldsForm zones (now (families .entry)) number) (now (file .entry)) at ⌝ }
     ensures figures { λ r. ⌜ (number ≡ 8 → made r (λ p. FiguresStand (now (file .entry)) (p .1) (p .0))) ⌝ }
@@ -168,7 +283,12 @@ fn fields_at<'a>(file: &'a [u8], at: usize, number: u32, sender: u32, zones: u32
 }
 
 // The entry at a place with its sender, and the place after it, part by part.
-fn turn_by_parts<'a>(file: &'a [u8], at: usize, zones: u32, families: &[Family]) -> Result<(Turn<'a>, usize), EntryFault>
+fn turn_by_parts<'a>(
+    file: &'a [u8],
+    at: usize,
+    zones: u32,
+    families: &[Family],
+) -> Result<(Turn<'a>, usize), EntryFault>
     ensures is { λ r. ⌜ turnView r ≡ entryAt zones (now (families .entry)) (now (file .entry)) at ⌝ }
     ensures figures { λ r. ⌜ made r (λ p. FiguresStand (now (file .entry)) (p .1) (p .0 .entry)) ⌝ }
 {
@@ -179,7 +299,12 @@ fn turn_by_parts<'a>(file: &'a [u8], at: usize, zones: u32, families: &[Family])
 }
 
 // The entry at a place with its sender, and the place after it. What was read can be written again, byte for byte.
-pub(crate) fn turn_at<'a>(file: &'a [u8], at: usize, zones: u32, families: &[Family]) -> Result<(Turn<'a>, usize), EntryFault>
+pub(crate) fn turn_at<'a>(
+    file: &'a [u8],
+    at: usize,
+    zones: u32,
+    families: &[Family],
+) -> Result<(Turn<'a>, usize), EntryFault>
     requires { ⌜ at ≤ length (now file) ⌝ }
     ensures is { λ r. ⌜ turnView r ≡ entryAt zones (now (families .entry)) (now (file .entry)) at ⌝ }
     ensures handed { λ r. ⌜ made r (λ p. FromFile zones (now (families .entry)) (now (file .entry)) at (p .1) (p .0)) ⌝ }

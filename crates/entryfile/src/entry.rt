@@ -14,19 +14,72 @@ pub enum Figures<'a> {
 // An entry. Quantities are tenths of a megawatt; every entry carries a reference of up to 32 printable characters.
 #[derive(Clone, Copy)]
 pub enum Entry<'a> {
-    Award { holder: u32, zone: u32, kind: Kind, quantity: u32, cleared_icap: u32, capability: u32, reference: &'a [u8] },
-    Lodge { award: u32, new_holder: u32, zone: u32, kind: Kind, quantity: u32, capability: u32, reference: &'a [u8] },
-    Approve { award: u32, reference: &'a [u8] },
-    Reject { award: u32, reference: &'a [u8] },
-    BuyOut { award: u32, quantity: u32, reference: &'a [u8] },
-    Reduction { award: u32, quantity: u32, reference: &'a [u8] },
-    Start { reference: &'a [u8] },
-    Sheet { award: u32, family: u32, figures: Figures<'a>, reference: &'a [u8] },
-    Standby { award: u32, hour: u32, reference: &'a [u8] },
-    DayEnd { reference: &'a [u8] },
-    Test { award: u32, delivered: u32, reference: &'a [u8] },
-    Marking { award: u32, sort: Mark, reference: &'a [u8] },
-    Closing { reference: &'a [u8] },
+    Award {
+        holder: u32,
+        zone: u32,
+        kind: Kind,
+        quantity: u32,
+        cleared_icap: u32,
+        capability: u32,
+        reference: &'a [u8],
+    },
+    Lodge {
+        award: u32,
+        new_holder: u32,
+        zone: u32,
+        kind: Kind,
+        quantity: u32,
+        capability: u32,
+        reference: &'a [u8],
+    },
+    Approve {
+        award: u32,
+        reference: &'a [u8],
+    },
+    Reject {
+        award: u32,
+        reference: &'a [u8],
+    },
+    BuyOut {
+        award: u32,
+        quantity: u32,
+        reference: &'a [u8],
+    },
+    Reduction {
+        award: u32,
+        quantity: u32,
+        reference: &'a [u8],
+    },
+    Start {
+        reference: &'a [u8],
+    },
+    Sheet {
+        award: u32,
+        family: u32,
+        figures: Figures<'a>,
+        reference: &'a [u8],
+    },
+    Standby {
+        award: u32,
+        hour: u32,
+        reference: &'a [u8],
+    },
+    DayEnd {
+        reference: &'a [u8],
+    },
+    Test {
+        award: u32,
+        delivered: u32,
+        reference: &'a [u8],
+    },
+    Marking {
+        award: u32,
+        sort: Mark,
+        reference: &'a [u8],
+    },
+    Closing {
+        reference: &'a [u8],
+    },
 }
 
 impl<'a> Entry<'a> {

@@ -69,6 +69,10 @@ impl EntryFault {
     pub fn in_entry(self, entry: usize) -> Fault
         ensures { λ r. ⌜ r ≡ faultOf entry self ⌝ }
     {
-        Fault { cause: self.cause(), entry, place: self.place() }
+        Fault {
+            cause: self.cause(),
+            entry,
+            place: self.place(),
+        }
     }
 }

@@ -26,7 +26,12 @@ use number::NumberFault;
 use number::read_number;
 
 // A number from `low` to `high`, and the place after it.
-pub(crate) fn range_at(file: &[u8], at: usize, low: u32, high: u32) -> Result<(u32, usize), EntryFault>
+pub(crate) fn range_at(
+    file: &[u8],
+    at: usize,
+    low: u32,
+    high: u32,
+) -> Result<(u32, usize), EntryFault>
     ensures is { λ r. ⌜ r ≡ checkedAt OutOfRange (within low high) (now (file .entry)) at ⌝ }
     ensures ahead { λ r. ⌜ made r (λ p. (at < p .1) × (p .1 ≤ length (now (file .entry)))) ⌝ }
 {
@@ -94,7 +99,11 @@ pub(crate) fn capability_at(file: &[u8], at: usize, kind: Kind) -> Result<(u32, 
 }
 
 // A family of the book, how many figures its sheets have, and the place after it.
-pub(crate) fn family_at(file: &[u8], at: usize, families: &[Family]) -> Result<(u32, usize, usize), EntryFault>
+pub(crate) fn family_at(
+    file: &[u8],
+    at: usize,
+    families: &[Family],
+) -> Result<(u32, usize, usize), EntryFault>
     ensures is { λ r. ⌜ familyView r ≡ checkedAt OutOfRange (isFamily (now (families .entry))) (now (file .entry)) at ⌝ }
     ensures figures { λ r. ⌜ made r (λ p. p .1 ≡ figureCount (now (families .entry)) (p .0)) ⌝ }
     ensures ahead { λ r. ⌜ made r (λ p. (at < p .2) × (p .2 ≤ length (now (file .entry)))) ⌝ }
@@ -120,7 +129,11 @@ pub fn figures_end(file: &[u8], at: usize, count: usize) -> Result<usize, EntryF
 }
 
 // So many figures, as the part of the file that holds them.
-pub(crate) fn figures_at<'a>(file: &'a [u8], at: usize, count: usize) -> Result<(&'a [u8], usize), EntryFault>
+pub(crate) fn figures_at<'a>(
+    file: &'a [u8],
+    at: usize,
+    count: usize,
+) -> Result<(&'a [u8], usize), EntryFault>
     requires { ⌜ at ≤ length (now file) ⌝ }
     ensures is { λ r. ⌜ figuresView r ≡ formAt (figuresForm count) (now (file .entry)) at ⌝ }
     ensures part { λ r. ⌜ made r (λ p. (now (p .0) ≡ between at (p .1) (now (file .entry))) × (at ≤ p .1) × (p .1 ≤ length (now (file .entry)))) ⌝ }
@@ -156,7 +169,10 @@ fn text_at<'a>(file: &'a [u8], at: usize, count: usize) -> Result<(&'a [u8], usi
     ensures bytes { λ _. ⌜ Under 256 (now (file .entry)) ⌝ }
 {
     if file.len() - at < count {
-        return Err(EntryFault::Number(NumberFault { cause: NumberCause::Ends, place: at }));
+        return Err(EntryFault::Number(NumberFault {
+            cause: NumberCause::Ends,
+            place: at,
+        }));
     }
     let text = &file[at..at + count];
     if !is_printable(text) {

@@ -97,7 +97,13 @@ fn shares_at(file: &[u8], at: usize) -> Result<(Shares, usize), EntryFault>
 {
     let (buyout_rate, at) = range_at(file, at, 0, 100)?;
     let (pass_mark, at) = range_at(file, at, 1, 100)?;
-    Ok((Shares { buyout_rate, pass_mark }, at))
+    Ok((
+        Shares {
+            buyout_rate,
+            pass_mark,
+        },
+        at,
+    ))
 }
 
 fn zones_at(file: &[u8], at: usize) -> Result<(Zones, usize), EntryFault>
@@ -108,7 +114,14 @@ fn zones_at(file: &[u8], at: usize) -> Result<(Zones, usize), EntryFault>
     let count = zones as usize;
     let (prices, at) = prices_at(file, at, count)?;
     let (shares, at) = shares_at(file, at)?;
-    Ok((Zones { prices, count, shares }, at))
+    Ok((
+        Zones {
+            prices,
+            count,
+            shares,
+        },
+        at,
+    ))
 }
 
 fn window_at(file: &[u8], at: usize) -> Result<(Window, usize), EntryFault>
@@ -118,7 +131,14 @@ fn window_at(file: &[u8], at: usize) -> Result<(Window, usize), EntryFault>
     let (first_hour, at) = range_at(file, at, 1, 24)?;
     let (last_hour, at) = range_at(file, at, first_hour, 24)?;
     let (zones, at) = zones_at(file, at)?;
-    Ok((Window { first_hour, last_hour, zones }, at))
+    Ok((
+        Window {
+            first_hour,
+            last_hour,
+            zones,
+        },
+        at,
+    ))
 }
 
 fn calendar_at(file: &[u8], at: usize) -> Result<(Calendar, usize), EntryFault>
@@ -129,7 +149,14 @@ fn calendar_at(file: &[u8], at: usize) -> Result<(Calendar, usize), EntryFault>
     let count = count as usize;
     let (months, at) = months_at(file, at, count)?;
     let (window, at) = window_at(file, at)?;
-    Ok((Calendar { months, count, window }, at))
+    Ok((
+        Calendar {
+            months,
+            count,
+            window,
+        },
+        at,
+    ))
 }
 
 // The opening that says what was read.
@@ -141,7 +168,14 @@ fn opened(calendar: Calendar) -> Opening
     let window = calendar.window;
     let zones = window.zones;
     let prices = &zones.prices[0..zones.count];
-    match Opening::new(months, window.first_hour, window.last_hour, prices, zones.shares.buyout_rate, zones.shares.pass_mark) {
+    match Opening::new(
+        months,
+        window.first_hour,
+        window.last_hour,
+        prices,
+        zones.shares.buyout_rate,
+        zones.shares.pass_mark,
+    ) {
         Ok(opening) => opening,
         // each number was read within its range, so the terms are never refused
         Err(_) => unreachable(),
@@ -155,5 +189,8 @@ pub(crate) fn head_at(file: &[u8]) -> Result<Head, EntryFault>
 {
     let (_version, at) = known_at(file, 0, 1)?;
     let (calendar, at) = calendar_at(file, at)?;
-    Ok(Head { opening: opened(calendar), end: at })
+    Ok(Head {
+        opening: opened(calendar),
+        end: at,
+    })
 }

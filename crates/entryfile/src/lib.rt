@@ -4,9 +4,10 @@ mod entry;
 mod fault;
 mod fields;
 mod head;
+mod next;
 mod reader;
 mod survey;
-mod next;
+
 pub use entry::Entry;
 pub use entry::Figures;
 pub use entry::Turn;

@@ -31,8 +31,18 @@ impl<'a> Reader<'a> {
     pub fn new(file: &'a [u8], families: &'a [Family], head: Head) -> Reader<'a>
         ensures { λ r. ⌜ StandsBehind (now (file .entry)) (now (families .entry)) head r ⌝ }
     {
-        let place = if head.end < file.len() { head.end } else { file.len() };
-        Reader { file, families, opening: head.opening, place, entries: 0 }
+        let place = if head.end < file.len() {
+            head.end
+        } else {
+            file.len()
+        };
+        Reader {
+            file,
+            families,
+            opening: head.opening,
+            place,
+            entries: 0,
+        }
     }
 
     // The next entry with its sender; none at the end of the file. After a fault the reader stands where it stood.

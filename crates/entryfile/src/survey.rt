@@ -26,13 +26,22 @@ pub fn read_through<'a>(file: &'a [u8], families: &'a [Family], head: Head) -> S
             Ok(next) => match next {
                 Some(_) => {}
                 None => {
-                    return Survey { entries: reader.entries(), fault: None };
+                    return Survey {
+                        entries: reader.entries(),
+                        fault: None,
+                    };
                 }
             },
             Err(fault) => {
-                return Survey { entries: reader.entries(), fault: Some(fault) };
+                return Survey {
+                    entries: reader.entries(),
+                    fault: Some(fault),
+                };
             }
         }
     }
-    Survey { entries: reader.entries(), fault: None }
+    Survey {
+        entries: reader.entries(),
+        fault: None,
+    }
 }

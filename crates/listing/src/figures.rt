@@ -7,7 +7,12 @@ use wording::TenthsDisplay;
 use wording::hours_text;
 
 // The figures of one hour, in megawatts, and the place after them.
-fn hour_figures(heap: Global, bytes: &[u8], at: usize, width: usize) -> Result<(String, usize), AllocError> {
+fn hour_figures(
+    heap: Global,
+    bytes: &[u8],
+    at: usize,
+    width: usize,
+) -> Result<(String, usize), AllocError> {
     let mut text = String::new(heap);
     let mut next = at;
     for _figure in 0..width {
@@ -23,7 +28,13 @@ fn hour_figures(heap: Global, bytes: &[u8], at: usize, width: usize) -> Result<(
 }
 
 // Adds a line for hours with the same figures.
-fn push_hours(heap: Global, lines: &mut String, first: u32, last: u32, figures: &str) -> Result<(), AllocError> {
+fn push_hours(
+    heap: Global,
+    lines: &mut String,
+    first: u32,
+    last: u32,
+    figures: &str,
+) -> Result<(), AllocError> {
     let line = hours_text(heap, first, last, figures)?;
     lines.push_str("    ")?;
     lines.push_str(line.as_str())?;

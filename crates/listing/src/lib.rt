@@ -2,6 +2,7 @@
 mod figures;
 mod input;
 mod report;
+
 pub use input::whole_input;
 pub use report::inspect;
 pub use report::run;

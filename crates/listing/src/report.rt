@@ -26,7 +26,10 @@ fn print_months(rt: &LibcRuntime, opening: &Opening) -> io::Result<()> {
         let number = i.saturating_add(1);
         let days = month.days;
         let factor = Tenths(month.factor);
-        println!(rt, "  month {number}: business days {days}, factor {factor}")?;
+        println!(
+            rt,
+            "  month {number}: business days {days}, factor {factor}"
+        )?;
     }
     Ok(())
 }
@@ -35,7 +38,10 @@ fn print_months(rt: &LibcRuntime, opening: &Opening) -> io::Result<()> {
 fn print_zones(rt: &LibcRuntime, opening: &Opening) -> io::Result<()> {
     for (i, price) in opening.prices().iter().enumerate() {
         let number = i.saturating_add(1);
-        println!(rt, "  zone {number}: price {price} cents for a megawatt-hour")?;
+        println!(
+            rt,
+            "  zone {number}: price {price} cents for a megawatt-hour"
+        )?;
     }
     Ok(())
 }
@@ -67,7 +73,11 @@ fn print_reference(rt: &LibcRuntime, reference: &[u8]) -> io::Result<()> {
 
 // The figures of a sheet, if the entry is one.
 fn print_figures(rt: &LibcRuntime, entry: &Entry, families: &[Family]) -> io::Result<()> {
-    if let Entry::Sheet { family, figures: Figures::Encoded(bytes), .. } = *entry {
+    if let Entry::Sheet {
+        family,
+        figures: Figures::Encoded(bytes),
+        ..
+    } = *entry {
         let count = figures_in_sheet(families, family).unwrap_or(0);
         let lines = figure_lines(rt.alloc(), bytes, count / 24)?;
         println!(rt, "  figures: {count}, in MW")?;
@@ -77,7 +87,13 @@ fn print_figures(rt: &LibcRuntime, entry: &Entry, families: &[Family]) -> io::Re
 }
 
 // One entry: count, place, name and sender, then its fields, its figures and its reference.
-fn print_entry(rt: &LibcRuntime, count: usize, place: usize, turn: &Turn, families: &[Family]) -> io::Result<()> {
+fn print_entry(
+    rt: &LibcRuntime,
+    count: usize,
+    place: usize,
+    turn: &Turn,
+    families: &[Family],
+) -> io::Result<()> {
     let heading = heading_text(rt.alloc(), count, place, turn)?;
     let fields = fields_text(rt.alloc(), &turn.entry)?;
     println!(rt, "{heading}")?;
@@ -101,7 +117,12 @@ fn print_end(rt: &LibcRuntime, place: usize, survey: Survey) -> io::Result<()> {
 }
 
 // The entries one by one, up to the end of the file or the first fault; returns the place where the reader stops.
-fn print_entries<'a>(rt: &LibcRuntime, file: &'a [u8], families: &'a [Family], head: Head) -> io::Result<usize> {
+fn print_entries<'a>(
+    rt: &LibcRuntime,
+    file: &'a [u8],
+    families: &'a [Family],
+    head: Head,
+) -> io::Result<usize> {
     let mut reader = Reader::new(file, families, head);
     for _turn in 0..file.len() {
         let place = reader.place();
@@ -134,15 +155,27 @@ pub fn inspect<'a>(rt: &LibcRuntime, file: &'a [u8], families: &'a [Family]) -> 
 
 // The families that a book has today: their numbers, and the figures of an hour record.
 const FAMILIES: [Family; 3] = [
-    Family { number: 1, figures_per_hour: 3 },
-    Family { number: 2, figures_per_hour: 3 },
-    Family { number: 3, figures_per_hour: 5 },
+    Family {
+        number: 1,
+        figures_per_hour: 3,
+    },
+    Family {
+        number: 2,
+        figures_per_hour: 3,
+    },
+    Family {
+        number: 3,
+        figures_per_hour: 5,
+    },
 ];
 
 // Reads a file from standard input and reports on it; a longer input is reported as too long.
 pub fn run(rt: &LibcRuntime) -> io::Result<()> {
     match whole_input(rt)? {
         Some(file) => inspect(rt, file.as_slice(), &FAMILIES),
-        None => println!(rt, "The input is too long: an entry file has at most 65536 bytes. Nothing was read."),
+        None => println!(
+            rt,
+            "The input is too long: an entry file has at most 65536 bytes. Nothing was read."
+        ),
     }
 }

@@ -2,12 +2,14 @@
 // table. Every other crate speaks in these words.
 ghost use mathlib.Core.Path.{_≡_};
 ghost use Rattle.market.specs.Ranges.{within};
+
 mod family;
 mod kind;
 mod month;
 mod opening;
 mod refusal;
 mod terms;
+
 pub use family::Family;
 pub use family::FamilyDebug;
 pub use family::FamilyPartialEq;

@@ -84,6 +84,10 @@ impl Fault {
     pub fn of_call(cause: Cause) -> Fault
         ensures { λ r. ⌜ r ≡ refusedCall cause ⌝ }
     {
-        Fault { cause, entry: 0, place: 0 }
+        Fault {
+            cause,
+            entry: 0,
+            place: 0,
+        }
     }
 }

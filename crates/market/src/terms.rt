@@ -49,13 +49,19 @@ fn count_in_range(count: usize, most: usize) -> bool
 fn calendar_in_range(months: &[Month], first_hour: u32, last_hour: u32) -> bool
     ensures { λ r. ⌜ r ≡ calendarFits (now (months .entry)) «first_hour» «last_hour» ⌝ }
 {
-    count_in_range(months.len(), 6) && months_in_range(months) && in_range(first_hour, 1, 24) && in_range(last_hour, first_hour, 24)
+    count_in_range(months.len(), 6)
+        && months_in_range(months)
+        && in_range(first_hour, 1, 24)
+        && in_range(last_hour, first_hour, 24)
 }
 
 fn prices_and_shares_in_range(prices: &[u32], buyout_rate: u32, pass_mark: u32) -> bool
     ensures { λ r. ⌜ r ≡ pricesFit (now (prices .entry)) «buyout_rate» «pass_mark» ⌝ }
 {
-    count_in_range(prices.len(), 10) && prices_in_range(prices) && in_range(buyout_rate, 0, 100) && in_range(pass_mark, 1, 100)
+    count_in_range(prices.len(), 10)
+        && prices_in_range(prices)
+        && in_range(buyout_rate, 0, 100)
+        && in_range(pass_mark, 1, 100)
 }
 
 // The months in the array that an opening keeps.
@@ -82,10 +88,19 @@ fn kept_prices(prices: &[u32]) -> [u32; 10]
 
 impl Opening {
     // An opening with these terms; refused with cause 5 where one of them is out of its range.
-    pub fn new(months: &[Month], first_hour: u32, last_hour: u32, prices: &[u32], buyout_rate: u32, pass_mark: u32) -> Result<Opening, Fault>
+    pub fn new(
+        months: &[Month],
+        first_hour: u32,
+        last_hour: u32,
+        prices: &[u32],
+        buyout_rate: u32,
+        pass_mark: u32,
+    ) -> Result<Opening, Fault>
         ensures { λ r. ⌜ Made (terms (now (months .entry)) «first_hour» «last_hour» (now (prices .entry)) «buyout_rate» «pass_mark») r ⌝ }
     {
-        if !calendar_in_range(months, first_hour, last_hour) || !prices_and_shares_in_range(prices, buyout_rate, pass_mark) {
+        if !calendar_in_range(months, first_hour, last_hour)
+            || !prices_and_shares_in_range(prices, buyout_rate, pass_mark)
+        {
             return Err(Fault::of_call(Cause::OutOfRange));
         }
         Ok(Opening {

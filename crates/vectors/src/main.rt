@@ -20,9 +20,18 @@ use std::io::BufReader;
 
 // The families of the book: 72, 72 and 120 figures to a sheet.
 static FAMILIES: [Family; 3] = [
-    Family { number: 1, figures_per_hour: 3 },
-    Family { number: 2, figures_per_hour: 3 },
-    Family { number: 3, figures_per_hour: 5 },
+    Family {
+        number: 1,
+        figures_per_hour: 3,
+    },
+    Family {
+        number: 2,
+        figures_per_hour: 3,
+    },
+    Family {
+        number: 3,
+        figures_per_hour: 5,
+    },
 ];
 
 // What became of a file: how many entries were read whole, and the fault that ended the reading.
@@ -42,7 +51,10 @@ impl fmt::Display for Outcome as OutcomeDisplay {
         let layer = fault.layer().number();
         let entry = fault.entry;
         let place = fault.place;
-        write!(f, "{entries} entries, cause {cause} layer {layer} entry {entry} place {place}")
+        write!(
+            f,
+            "{entries} entries, cause {cause} layer {layer} entry {entry} place {place}"
+        )
     }
 }
 
@@ -117,14 +129,20 @@ fn read_on(reader: &mut Reader<'_>) -> Result<(), Fault>
 fn outcome_of(file: &[u8]) -> Outcome {
     let head = match read_head(file) {
         Ok(head) => head,
-        Err(fault) => return Outcome { entries: 0, fault: Some(fault) },
+        Err(fault) => return Outcome {
+            entries: 0,
+            fault: Some(fault),
+        },
     };
     let mut reader = Reader::new(file, &FAMILIES, head);
     let fault = match read_on(&mut reader) {
         Ok(()) => None,
         Err(fault) => Some(fault),
     };
-    Outcome { entries: reader.entries(), fault }
+    Outcome {
+        entries: reader.entries(),
+        fault,
+    }
 }
 
 // Runs one line of the table; whether it was a case.

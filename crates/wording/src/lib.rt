@@ -1,6 +1,7 @@
 // The words in which a listing tells of entries and faults. What each function writes is pinned by its contract.
 mod lines;
 mod words;
+
 pub use lines::fault_text;
 pub use lines::fields_text;
 pub use lines::heading_text;

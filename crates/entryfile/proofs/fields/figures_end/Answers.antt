@@ -18,8 +18,7 @@ returns-in-Break-after c =
 pub loop-figure-again : need.loop-figure-again
 loop-figure-again c =
     let told = c .in-Continue-after .ensures tt in
-    let k : c .args .count - (c .loop-figure .-figure + 1) ≡ c .args .count - c .loop-figure .-figure - 1 = omega arith in
-    (
+    let k : c .args .count - (c .loop-figure .-figure + 1) ≡ c .args .count - c .loop-figure .-figure - 1 = omega arith in (
       ap (λ j. endOf (formAt (figuresForm j) (c .args .file .now) (c .in-Continue-after .after))) k ∙ figure-more (c .args .file .now) (c .loop-figure .next) (c .args .count - c .loop-figure .-figure) _ _ (omega arith) (told .is) ∙ c .loop-figure .inv .0,
       λ h. (omega (arith, told .ahead .0, c .loop-figure .inv .1 h .0), told .ahead .1),
     )

@@ -22,8 +22,7 @@ returns-in-Break-month c =
 
 pub loop-i-again : need.loop-i-again
 loop-i-again c =
-    let k : c .args .count - c .loop-i .i - 1 ≡ c .args .count - (c .loop-i .i + 1) = omega arith in
-    (
+    let k : c .args .count - c .loop-i .i - 1 ≡ c .args .count - (c .loop-i .i + 1) = omega arith in (
       c .loop-i .inv .0 ∙ month-more (c .loop-i .months) (c .loop-i .i) (c .args .count - c .loop-i .i) (c .args .file .now) (c .loop-i .next) (c .in-Continue-month .after) (c .in-Continue-month .month) (omega arith) (omega arith) (c .in-Continue-month .ensures tt) ∙ ap (λ j. ahead (monthNumbers (take (c .loop-i .i + 1) (set (c .loop-i .months) (c .loop-i .i) (c .in-Continue-month .month)))) (formAt (monthsForm j done) (c .args .file .now) (c .in-Continue-month .after))) k,
       simp length-set (c .loop-i .inv .1),
     )

@@ -22,8 +22,7 @@ returns-in-Break-price c =
 
 pub loop-i-again : need.loop-i-again
 loop-i-again c =
-    let k : c .args .count - c .loop-i .i - 1 ≡ c .args .count - (c .loop-i .i + 1) = omega arith in
-    (
+    let k : c .args .count - c .loop-i .i - 1 ≡ c .args .count - (c .loop-i .i + 1) = omega arith in (
       c .loop-i .inv .0 ∙ price-more (c .loop-i .prices) (c .loop-i .i) (c .args .count - c .loop-i .i) (c .args .file .now) (c .loop-i .next) (c .in-Continue-price .after) (c .in-Continue-price .price) (omega arith) (omega arith) (c .in-Continue-price .ensures tt .is) ∙ ap (λ j. ahead (take (c .loop-i .i + 1) (set (c .loop-i .prices) (c .loop-i .i) (c .in-Continue-price .price))) (formAt (pricesForm j done) (c .args .file .now) (c .in-Continue-price .after))) k,
       simp length-set (c .loop-i .inv .1),
     )
