@@ -10,4 +10,3 @@ pub mod Sequence
 pub mod Ranged
 pub mod Opened
 pub mod Handed
-pub mod Through

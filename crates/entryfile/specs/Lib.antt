@@ -6,5 +6,3 @@ pub mod Files
 pub mod Heads
 pub mod Laws
 pub mod Steps
-pub mod Readers
-pub mod Surveys

@@ -299,15 +299,14 @@ fn turn_by_parts<'a>(
 }
 
 // The entry at a place with its sender, and the place after it. What was read can be written again, byte for byte.
-pub(crate) fn turn_at<'a>(
+pub fn turn_at<'a>(
     file: &'a [u8],
     at: usize,
     zones: u32,
     families: &[Family],
 ) -> Result<(Turn<'a>, usize), EntryFault>
-    requires { ⌜ at ≤ length (now file) ⌝ }
     ensures is { λ r. ⌜ turnView r ≡ entryAt zones (now (families .entry)) (now (file .entry)) at ⌝ }
-    ensures handed { λ r. ⌜ made r (λ p. FromFile zones (now (families .entry)) (now (file .entry)) at (p .1) (p .0)) ⌝ }
+    ensures handed { λ r. ⌜ (at ≤ length (now (file .entry)) → made r (λ p. FromFile zones (now (families .entry)) (now (file .entry)) at (p .1) (p .0))) ⌝ }
 {
     turn_by_parts(file, at, zones, families)
 }

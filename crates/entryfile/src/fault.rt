@@ -42,7 +42,7 @@ fn number_cause(cause: NumberCause) -> Cause
 
 impl EntryFault {
     // The cause by which the refusal table knows the fault.
-    pub fn cause(self) -> Cause
+    fn cause(self) -> Cause
         ensures { λ r. ⌜ r ≡ causeOf self ⌝ }
     {
         match self {
@@ -54,7 +54,7 @@ impl EntryFault {
     }
 
     // The byte where the faulty part begins.
-    pub fn place(self) -> usize
+    fn place(self) -> usize
         ensures { λ r. ⌜ r ≡ placeOf self ⌝ }
     {
         match self {

@@ -183,7 +183,7 @@ fn opened(calendar: Calendar) -> Opening
 }
 
 // Version and opening.
-pub(crate) fn head_at(file: &[u8]) -> Result<Head, EntryFault>
+pub fn head_at(file: &[u8]) -> Result<Head, EntryFault>
     ensures is { λ r. ⌜ headView r ≡ formAt headForm (now (file .entry)) 0 ⌝ }
     ensures rewrites { λ r. ⌜ made r (λ h. Stands (now (file .entry)) 0 (headBytes (termsOf (h .opening))) (h .end)) ⌝ }
 {

@@ -1,13 +1,11 @@
-// The entry file: its reader, its writer and the faults of layers 1 and 2.
+// The layout of an entry file: its opening, the thirteen entries, how each is read, and the faults of layers 1 and 2.
 mod entries;
 mod entry;
 mod fault;
 mod fields;
 mod head;
-mod next;
-mod reader;
-mod survey;
 
+pub use entries::turn_at;
 pub use entry::Entry;
 pub use entry::Figures;
 pub use entry::Turn;
@@ -18,7 +16,4 @@ pub use fault::EntryFromNumber;
 pub use fields::figures_end;
 pub use fields::is_printable;
 pub use head::Head;
-pub use next::read_head;
-pub use reader::Reader;
-pub use survey::Survey;
-pub use survey::read_through;
+pub use head::head_at;

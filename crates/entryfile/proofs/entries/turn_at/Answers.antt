@@ -8,5 +8,5 @@ returns c =
     let told = c .turn-by-parts .ensures in
     record {
       is = told .is;
-      handed = handed (c .args .zones) (c .args .families .now) (c .args .file .now) (c .args .at) (under-bytes _ (λ i. omega (arith, c .typed .file i))) (c .pre) (c .turn-by-parts .result) (told .is) (told .figures);
+      handed = λ within. handed (c .args .zones) (c .args .families .now) (c .args .file .now) (c .args .at) (under-bytes _ (λ i. omega (arith, c .typed .file i))) within (c .turn-by-parts .result) (told .is) (told .figures);
     }

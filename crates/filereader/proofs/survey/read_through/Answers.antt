@@ -4,8 +4,8 @@ use native.Mathlib.Omega.{arith}
 use lib.ListN.{length}
 use Rattle.std.specs.declared.option.Option.the-variants.{Some, None}
 use Rattle.number.proofs.Codec.{under-bytes}
-use Rattle.entryfile.proofs.Through.{leftOf, survey, at-start, goes-on, ends, fails, no-turns, whole-writes, whole-reads}
-use Rattle.entryfile.proofs.survey.read_through.Needs as need
+use Rattle.filereader.proofs.Through.{leftOf, survey, at-start, goes-on, ends, fails, no-turns, whole-writes, whole-reads}
+use Rattle.filereader.proofs.survey.read_through.Needs as need
 
 pub loop-turn-again : need.loop-turn-again
 loop-turn-again c =

@@ -8,12 +8,12 @@ use Rattle.std.specs.declared.option.Option.the-variants.{None}
 use Rattle.market.specs.Openings.{Terms}
 use Rattle.market.specs.Opened.{termsOf}
 use Rattle.market.specs.declared.family.Family.{Family}
 use Rattle.entryfile.specs.declared.head.Head.{Head}
-use Rattle.entryfile.specs.declared.survey.Survey.{Survey}
+use Rattle.filereader.specs.declared.survey.Survey.{Survey}
 use Rattle.entryfile.specs.Files.{Listing, listing, entriesFrom, headBytes, itemsBytes, fileBytes, zonesOf}
 use Rattle.entryfile.specs.Items.{Item}
 use Rattle.entryfile.specs.Laws.{Stands, AllGood}
 use Rattle.entryfile.specs.Steps.{faultOf}
 
 -- what is told of a listing that comes after so many entries: a fault is one of the entry that was to come
 abbrev pub surveyAfter : ℕ → Listing → Survey

@@ -9,11 +9,11 @@ use Rattle.std.specs.declared.result.Result.the-variants.{Ok, Err}
 use Rattle.market.specs.Opened.{termsOf}
 use Rattle.market.specs.declared.family.Family.{Family}
 use Rattle.market.specs.declared.refusal.Fault.{Fault}
-use Rattle.entryfile.specs.declared.reader.Reader.{Reader}
+use Rattle.filereader.specs.declared.reader.Reader.{Reader}
 use Rattle.entryfile.specs.declared.head.Head.{Head}
 use Rattle.entryfile.specs.Forms.{Got, formAt}
 use Rattle.entryfile.specs.Files.{headForm, headNumbers, zonesOf}
 use Rattle.entryfile.specs.Steps.{Answer, Position, position, step, faultOf}
 
 abbrev pub fileOf : Reader → List ℕ
 fileOf r = now (r .file)

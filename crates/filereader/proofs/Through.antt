@@ -16,19 +16,19 @@ use Rattle.std.specs.declared.result.Result.the-variants.{Ok, Err}
 use Rattle.market.specs.Opened.{termsOf}
 use Rattle.market.specs.declared.family.Family.{Family}
 use Rattle.market.specs.declared.refusal.Fault.{Fault}
 use Rattle.entryfile.specs.declared.entry.Turn.{Turn}
 use Rattle.entryfile.specs.declared.head.Head.{Head}
-use Rattle.entryfile.specs.declared.reader.Reader.{Reader}
-use Rattle.entryfile.specs.declared.survey.Survey.{Survey}
+use Rattle.filereader.specs.declared.reader.Reader.{Reader}
+use Rattle.filereader.specs.declared.survey.Survey.{Survey}
 use Rattle.entryfile.specs.Forms.{Got}
 use Rattle.entryfile.specs.Items.{Item, entryAt}
 use Rattle.entryfile.specs.Files.{Listing, listing, goOn, entriesBy, headBytes, itemsBytes, fileBytes, zonesOf}
 use Rattle.entryfile.specs.Views.{itemOf}
 use Rattle.entryfile.specs.Steps.{Answer, Position, position, stepBy, faultOf, answerOf}
-use Rattle.entryfile.specs.Readers.{StandsBehind, SameSource, fileOf, familiesOf, zonesIn, positionOf, nextOf}
-use Rattle.entryfile.specs.Surveys.{surveyAfter, listingOf, WholeFileWrites, WholeFileReads}
+use Rattle.filereader.specs.Readers.{StandsBehind, SameSource, fileOf, familiesOf, zonesIn, positionOf, nextOf}
+use Rattle.filereader.specs.Surveys.{surveyAfter, listingOf, WholeFileWrites, WholeFileReads}
 use Rattle.entryfile.proofs.Reading.{entries-read}
 use Rattle.entryfile.proofs.Writing.{entries-write}
 
 abbrev pub survey : ℕ → Option Fault → Survey
 survey n f = record { entries = n; fault = f }

@@ -1,9 +1,9 @@
 // Reading a whole file.
 ghost use mathlib.Core.Path.{_≡_};
 ghost use Prim.Native.Nat.{ℕ};
-ghost use Rattle.entryfile.specs.Surveys.{surveyAfter, listingOf, WholeFileWrites, WholeFileReads};
-use crate::head::Head;
+ghost use Rattle.filereader.specs.Surveys.{surveyAfter, listingOf, WholeFileWrites, WholeFileReads};
 use crate::reader::Reader;
+use entryfile::Head;
 use market::Family;
 use market::Fault;
 
