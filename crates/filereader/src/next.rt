@@ -13,7 +13,6 @@ use entryfile::head_at;
 use entryfile::turn_at;
 use market::Family;
 use market::Fault;
-use market::Opening;
 
 // Reads version and opening. A fault there is one of entry 0.
 pub fn read_head(file: &[u8]) -> Result<Head, Fault>

@@ -10,7 +10,3 @@ pub use words::Megawatts;
 pub use words::MegawattsDisplay;
 pub use words::Tenths;
 pub use words::TenthsDisplay;
-pub use words::cause_meaning;
-pub use words::entry_name;
-pub use words::kind_name;
-pub use words::mark_name;

@@ -36,7 +36,7 @@ pub impl fmt::Display for Megawatts as MegawattsDisplay {
     }
 }
 
-pub fn kind_name(kind: Kind) -> &'static str
+pub(crate) fn kind_name(kind: Kind) -> &'static str
     ensures { λ r. ⌜ now r ≡ kindName kind ⌝ }
 {
     match kind {
@@ -50,7 +50,7 @@ pub fn kind_name(kind: Kind) -> &'static str
     }
 }
 
-pub fn mark_name(sort: Mark) -> &'static str
+pub(crate) fn mark_name(sort: Mark) -> &'static str
     ensures { λ r. ⌜ now r ≡ markName sort ⌝ }
 {
     match sort {
@@ -60,7 +60,7 @@ pub fn mark_name(sort: Mark) -> &'static str
 }
 
 // What a cause means, as a clerk would say it.
-pub fn cause_meaning(cause: Cause) -> &'static str
+pub(crate) fn cause_meaning(cause: Cause) -> &'static str
     ensures { λ r. ⌜ now r ≡ causeMeaning cause ⌝ }
 {
     match cause {
@@ -74,7 +74,7 @@ pub fn cause_meaning(cause: Cause) -> &'static str
     }
 }
 
-pub fn entry_name(entry: &Entry) -> &'static str
+pub(crate) fn entry_name(entry: &Entry) -> &'static str
     ensures { λ r. ⌜ now r ≡ entryName (now (entry .entry)) ⌝ }
 {
     match entry {
