@@ -19,3 +19,12 @@ module _ {A : Type 0} (test : A → Bool) (xs : List A) (i : ℕ) where
 
   pub every-all : length xs ≤ i → every test (drop i xs) ≡ every test xs → true ≡ every test xs
   every-all h inv = sym (ap (every test) (drop-all i xs h)) ∙ inv
+
+-- the same as one fact that a loop keeps: those from a place on decide, and so does the next one if it fails, or the end
+pub record Testing {A : Type 0} (test : A → Bool) (xs : List A) (i : ℕ) : Type 0 where
+  pub rest : every test (drop i xs) ≡ every test xs
+  pub stop : (d : A) → i < length xs → false ≡ test (getD xs i d) → false ≡ every test xs
+  pub end : length xs ≤ i → true ≡ every test xs
+
+pub testing : {A : Type 0} (test : A → Bool) (xs : List A) (i : ℕ) → every test (drop i xs) ≡ every test xs → Testing test xs i
+testing test xs i e = record { rest = e; stop = λ d h f. every-stop test xs i d h e (sym f); end = λ h. every-all test xs i h e }

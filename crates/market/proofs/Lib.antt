@@ -1,2 +1,3 @@
 pub mod Everys
 pub mod Kept
+pub mod Searching
