@@ -7,6 +7,7 @@ use Rattle.std.specs.declared.result.Result.the-variants.{Ok, Err}
 use Rattle.entryfile.specs.declared.fault.EntryFault.{EntryFault}
 use Rattle.entryfile.specs.Forms.{Form, done, field, Got, checkedAt, more, ahead, afterField, formAt}
 use Rattle.entryfile.specs.Items.{item, called, referenceAt, withReference, entryWith}
+use Rattle.entryfile.proofs.Sequence.{ahead-ok}
 
 -- these numbers are read by the form from a place to a place
 pub data Reads (file : List ℕ) : ℕ → Form → List ℕ → ℕ → Type 0 where
@@ -18,10 +19,6 @@ pub read : {file : List ℕ} {at : ℕ} {form : Form} {ns : List ℕ} {q : ℕ} 
 read end = refl
 read (all e) = e
 read {file} (one {at} {n} {p} {q} {fault} {test} {rest} e f) = ap (more n) (read f) ∙ ap (afterField (λ m. formAt (rest m) file)) e
-
-ahead-ok : (first ns : List ℕ) (q : ℕ) → ahead first (Ok (ns, q)) ≡ Ok (first ++ ns, q)
-ahead-ok [] ns q = refl
-ahead-ok (n ∷ first) ns q = ap (more n) (ahead-ok first ns q)
 
 -- an entry whose fields and reference are read
 pub entry-read : (first : List ℕ) {file : List ℕ} {at : ℕ} {form : Form} {ns t : List ℕ} {q end : ℕ} → Reads file at form ns q → Ok (t, end) ≡ referenceAt file q → Ok (item (first ++ ns) t, end) ≡ entryWith first form file at
