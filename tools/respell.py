@@ -309,7 +309,7 @@ NAME = re.compile(r"[A-Za-z_][\w'-]*")
 
 
 def respelled(path, text):
-    if path.startswith("crates/entrywriter/proofs/"):
+    if path.startswith("crates/entrywriter/proofs/") and "head-size" in text:
         text = re.sub(r"\bhead_bytes\b", "head_bytes_by_parts", text)
     if re.search(r"^(ghost )?use Rattle\.market\.specs\.Openings\.\{[^}]*\bin_range\b", text, re.M) or path.endswith(
         "market/specs/Openings.antt"

@@ -9,7 +9,7 @@ use Rattle.market.specs.Ranges.{within, every, limit}
 use Rattle.market.specs.Openings.{Terms, month_in_range, calendar_fits, prices_fit, terms_in_range}
 use Rattle.market.specs.declared.month.Month.{Month}
 use Rattle.entryfile.specs.Items.{numbers_bytes}
-use Rattle.entryfile.specs.Files.{month_numbers, head_form, head_numbers, head_bytes_by_parts}
+use Rattle.entryfile.specs.Files.{month_numbers, head_form, head_numbers, head_bytes}
 use Rattle.entryfile.proofs.Reading.{form_reads}
 use Rattle.entryfile.proofs.Ranged.{opening_accepts}
 use Rattle.entrywriter.specs.Writes.{HeadReadsBack}
@@ -22,7 +22,7 @@ months_more ms i m h = at_drop_more (λ l. numbers_bytes (month_numbers l)) ms i
 pub months_size_more : (ms : List Month) (i : ℕ) (m : Month) → i < length ms → length (numbers_bytes (month_numbers (drop i ms))) ≡ length (numbers_bytes ((get_or ms i m).days ∷ (get_or ms i m).factor ∷ [])) + length (numbers_bytes (month_numbers (drop (i + 1) ms)))
 months_size_more ms i m h = ap length (months_more ms i m h) ∙ length-append (numbers_bytes ((get_or ms i m).days ∷ (get_or ms i m).factor ∷ [])) (numbers_bytes (month_numbers (drop (i + 1) ms)))
 
-in_parts : (t : Terms) → numbers_bytes (1 ∷ length t.months ∷ []) ++ (numbers_bytes (month_numbers t.months) ++ (numbers_bytes (t.first_hour ∷ t.last_hour ∷ length t.prices ∷ []) ++ (numbers_bytes t.prices ++ numbers_bytes (t.buyout_rate ∷ t.pass_mark ∷ [])))) ≡ head_bytes_by_parts t
+in_parts : (t : Terms) → numbers_bytes (1 ∷ length t.months ∷ []) ++ (numbers_bytes (month_numbers t.months) ++ (numbers_bytes (t.first_hour ∷ t.last_hour ∷ length t.prices ∷ []) ++ (numbers_bytes t.prices ++ numbers_bytes (t.buyout_rate ∷ t.pass_mark ∷ [])))) ≡ head_bytes t
 in_parts t =
     let shares = t.buyout_rate ∷ t.pass_mark ∷ [] in
     let window = t.first_hour ∷ t.last_hour ∷ length t.prices ∷ [] in
@@ -35,10 +35,10 @@ in_parts t =
 
 -- the parts of the head as the code holds them
 module _ (t : Terms) (ms : List Month) (ps : List ℕ) (f l z r m : ℕ) (e₁ : ms ≡ t.months) (e₂ : ps ≡ t.prices) (e₃ : f ≡ t.first_hour) (e₄ : l ≡ t.last_hour) (e₅ : z ≡ length t.prices) (e₆ : r ≡ t.buyout_rate) (e₇ : m ≡ t.pass_mark) where
-  pub head_bytes_by_parts : numbers_bytes (1 ∷ length ms ∷ []) ++ (numbers_bytes (month_numbers ms) ++ (numbers_bytes (f ∷ l ∷ z ∷ []) ++ (numbers_bytes ps ++ numbers_bytes (r ∷ m ∷ [])))) ≡ head_bytes_by_parts t
+  pub head_bytes_by_parts : numbers_bytes (1 ∷ length ms ∷ []) ++ (numbers_bytes (month_numbers ms) ++ (numbers_bytes (f ∷ l ∷ z ∷ []) ++ (numbers_bytes ps ++ numbers_bytes (r ∷ m ∷ [])))) ≡ head_bytes t
   head_bytes_by_parts = rw (e₁, e₂, e₃, e₄, e₅, e₆, e₇) (in_parts t)
 
-  pub head_size : length (numbers_bytes (1 ∷ length ms ∷ [])) + (length (numbers_bytes (month_numbers ms)) + (length (numbers_bytes (f ∷ l ∷ z ∷ [])) + (length (numbers_bytes ps) + length (numbers_bytes (r ∷ m ∷ []))))) ≡ length (head_bytes_by_parts t)
+  pub head_size : length (numbers_bytes (1 ∷ length ms ∷ [])) + (length (numbers_bytes (month_numbers ms)) + (length (numbers_bytes (f ∷ l ∷ z ∷ [])) + (length (numbers_bytes ps) + length (numbers_bytes (r ∷ m ∷ []))))) ≡ length (head_bytes t)
   head_size =
       let shares = numbers_bytes (r ∷ m ∷ []) in
       let window = numbers_bytes (f ∷ l ∷ z ∷ []) in
@@ -77,5 +77,5 @@ head_small t e =
     (omega arith, (within_small 1 6 _ (omega arith) count, All-append _ (month_numbers t.months) _ (months_small t.months months) (All-append _ (t.first_hour ∷ t.last_hour ∷ length ps ∷ []) _ window-small (All-append _ ps _ (prices_small ps prices) shares-small))))
 
 -- an opening that was written is read back
-pub head_reads_back : (t : Terms) → terms_in_range t ≡ true → {was : List ℕ} {n : ℕ} {is : List ℕ} → Wrote was 0 (head_bytes_by_parts t) n is → HeadReadsBack t (Ok n)
+pub head_reads_back : (t : Terms) → terms_in_range t ≡ true → {was : List ℕ} {n : ℕ} {is : List ℕ} → Wrote was 0 (head_bytes t) n is → HeadReadsBack t (Ok n)
 head_reads_back t e {n = n} w file post f = form_reads head_form (head_numbers t) file 0 post (record { fits = opening_accepts t ∙ e; small = head_small t e }) f ∙ ap (λ k. Ok (head_numbers t, k)) (sym w.ends)
