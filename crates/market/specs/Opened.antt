@@ -1,5 +1,5 @@
 -- What a value of the type Opening says.
-use Rattle.std.specs.Prelude.{◌≡◌, ℕ, true, false, take, Ok, Err, Result}
+use Rattle.std.specs.Prelude.{◌≡◌, true, false, take, Ok, Err, Result}
 use Rattle.market.specs.Openings.{Terms, terms, terms_in_range}
 use Rattle.market.specs.Refusals.{refused_call}
 use Rattle.market.specs.declared.opening.Opening.{Opening}

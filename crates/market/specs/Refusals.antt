@@ -1,7 +1,7 @@
 -- The refusal table: each cause with its number and its layer.
 use Rattle.std.specs.Prelude.{ℕ}
 use Rattle.market.specs.declared.refusal.Cause.{Cause}
-use Rattle.market.specs.declared.refusal.Cause.TheVariants.{Ends, Padded, Large, Unknown, OutOfRange, BadText, NoRoom, BelowMinimum}
+use Rattle.market.specs.declared.refusal.Cause.TheVariants.{Ends, Padded, Large, Unknown, OutOfRange, BadText, NoRoom}
 use Rattle.market.specs.declared.refusal.Layer.{Layer}
 use Rattle.market.specs.declared.refusal.Layer.TheVariants.{Numbers, Entries}
 use Rattle.market.specs.declared.refusal.Fault.{Fault}
@@ -15,7 +15,6 @@ refusal Unknown = (4, Entries)
 refusal OutOfRange = (5, Entries)
 refusal BadText = (6, Entries)
 refusal NoRoom = (7, Entries)
-refusal BelowMinimum = (20, Entries)
 
 abbrev pub layer_number : Layer → ℕ
 layer_number Numbers = 1

@@ -1,5 +1,7 @@
 // The market's vocabulary: kinds of resource, the opening of a book with the ranges of its numbers, and the refusal
 // table. Every other crate speaks in these words.
+#![tactic(auto)]
+
 ghost use Rattle.std.specs.Prelude.{◌≡◌};
 ghost use Rattle.market.specs.Ranges.{within};
 

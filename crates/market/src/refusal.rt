@@ -19,8 +19,6 @@ pub enum Cause {
     BadText,
     // 7: the writer's buffer is too short
     NoRoom,
-    // 20: a qualified amount below 10 tenths of a megawatt
-    BelowMinimum,
 }
 
 // Which layer refuses: the numbers of a file, or its entries.
@@ -53,7 +51,6 @@ impl Cause {
             Cause::OutOfRange => 5,
             Cause::BadText => 6,
             Cause::NoRoom => 7,
-            Cause::BelowMinimum => 20,
         }
     }
 

@@ -1,5 +1,7 @@
 // Numbers as they stand in an entry file: groups of seven bits, the least first, with bit 7 set on all bytes but the
 // last. This is the lowest layer of the file format: it knows bytes and places, and nothing of entries.
+#![tactic(auto)]
+
 ghost use Rattle.std.specs.Prelude.{◌≡◌, ℕ, ◌+◌, ◌<◌, ◌≤◌, List, ◌++◌, length, IfOk, Ok, MatchOption};
 ghost use Rattle.std.specs.List.{between};
 ghost use Rattle.number.specs.Numbers.{encode, decode, number_at};

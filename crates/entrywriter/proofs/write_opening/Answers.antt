@@ -10,8 +10,8 @@ pub returns : goal.returns
 returns c =
     let t = terms_of c.args.opening.now in
     let was = c.args.buf.now in
-    let room = le-leb (length (head_bytes_by_parts t)) (length was) (omega (arith, c.if-buf-head-size.false, c.head_size.ensures)) in
+    let room = le-leb (length (head_bytes_by_parts t)) (length was) (omega (arith, c.if-buf-head_size.false, c.head_size.ensures)) in
     record {
-      is = wrote was (head_bytes_by_parts t) _ _ _ c.put-head.ensures refl refl room;
-      rereads = head_reads_back t c.args.opening.now.in_range c.put-head.ensures;
+      is = wrote was (head_bytes_by_parts t) _ _ _ c.put_head.ensures refl refl room;
+      rereads = head_reads_back t c.args.opening.now.in_range c.put_head.ensures;
     }

@@ -2,8 +2,8 @@ use Rattle.std.proofs.Common.{length, ap, arith}
 use Rattle.number.proofs.Codec.{encode_low, encode_high, encode_few}
 use Rattle.number.proofs.number_size.Goals as goal
 
-pub overflow-add-size : goal.overflow-add-size
-overflow-add-size c = omega (arith, c.loop-left.invariant, encode_few c.args.n (omega arith))
+pub overflow_add-size : goal.overflow_add-size
+overflow_add-size c = omega (arith, c.loop-left.invariant, encode_few c.args.n (omega arith))
 
 pub loop-left-preserved : goal.loop-left-preserved
 loop-left-preserved c = omega (arith, c.loop-left.invariant, ap length (encode_high c.loop-left.left (omega arith)))

@@ -4,4 +4,4 @@ use Rattle.entryfile.proofs.Stepwise.{Reads, end, one, entry_read}
 use Rattle.entryfile.proofs.entries.read_lodge.Goals as goal
 
 pub returns : goal.returns
-returns c = entry_read (2 ∷ c.args.sender ∷ []) {form = lodge_form c.args.zones} (one c.in-ok-award.ensures.is (one c.in-ok-new-holder.ensures.is (one c.in-ok-zone.ensures.is (one c.in-ok-kind.ensures.is (one c.in-ok-quantity.ensures.is (one c.in-ok-capability.ensures.is end)))))) c.in-ok-reference.ensures.is
+returns c = entry_read (2 ∷ c.args.sender ∷ []) {form = lodge_form c.args.zones} (one c.in_ok-award.ensures.is (one c.in_ok-new_holder.ensures.is (one c.in_ok-zone.ensures.is (one c.in_ok-kind.ensures.is (one c.in_ok-quantity.ensures.is (one c.in_ok-capability.ensures.is end)))))) c.in_ok-reference.ensures.is

@@ -8,10 +8,10 @@ use Rattle.entryfile.proofs.entries.read_sheet.Goals as goal
 
 pub returns : goal.returns
 returns c =
-    let figures = c.in-ok-figures.ensures in
-    let family = c.in-ok-family.ensures in
-    let reference = c.in-ok-reference.ensures in
+    let figures = c.in_ok-figures.ensures in
+    let family = c.in_ok-family.ensures in
+    let reference = c.in_ok-reference.ensures in
     record {
-      is = entry_read (8 ∷ c.args.sender ∷ []) {form = sheet_form c.args.families.now} (one c.in-ok-award.ensures.is (one family.is (all (figures.is ∙ ap (λ k. form_at (figures_form k) c.args.file.now c.in-ok-family.at) family.figures)))) reference.is;
-      figures = part_before c.args.file.now _ (reference_bytes c.in-ok-reference.reference.now) _ _ _ figures.part.0 figures.part.1 figures.part.2 reference.part.0;
+      is = entry_read (8 ∷ c.args.sender ∷ []) {form = sheet_form c.args.families.now} (one c.in_ok-award.ensures.is (one family.is (all (figures.is ∙ ap (λ k. form_at (figures_form k) c.args.file.now c.in_ok-family.at) family.figures)))) reference.is;
+      figures = part_before c.args.file.now _ (reference_bytes c.in_ok-reference.reference.now) _ _ _ figures.part.0 figures.part.1 figures.part.2 reference.part.0;
     }

@@ -5,8 +5,8 @@ use Rattle.entryfile.proofs.entries.turn_at.Goals as goal
 
 pub returns : goal.returns
 returns c =
-    let told = c.turn-by-parts.ensures in
+    let told = c.turn_by_parts.ensures in
     record {
       is = told.is;
-      handed = λ within. handed c.args.zones c.args.families.now c.args.file.now c.args.at (under_bytes _ (λ i. omega (arith, c.type-inv.file i))) within c.turn-by-parts.result told.is told.figures;
+      handed = λ within. handed c.args.zones c.args.families.now c.args.file.now c.args.at (under_bytes _ (λ i. omega (arith, c.type_inv.file i))) within c.turn_by_parts.result told.is told.figures;
     }

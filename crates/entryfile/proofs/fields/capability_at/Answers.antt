@@ -3,11 +3,11 @@ use Rattle.std.proofs.lemmas.Result.{IfOk-from_err}
 use Rattle.entryfile.proofs.Checks.{exit, check_err, check_no, check_ok}
 use Rattle.entryfile.proofs.fields.capability_at.Goals as goal
 
-pub returns-in-err-n : goal.returns-in-err-n
-returns-in-err-n c = record { is = (exit _ c.from-residual.ensures.1) ∙ check_err _ _ _ _ c.in-err-n.ensures.is; ahead = IfOk-from_err _ _ c.from-residual.ensures.0 }
+pub returns-in_err-n : goal.returns-in_err-n
+returns-in_err-n c = record { is = (exit _ c.from-residual.ensures.1) ∙ check_err _ _ _ _ c.in_err-n.ensures.is; ahead = IfOk-from_err _ _ c.from-residual.ensures.0 }
 
-pub returns-then-not-fits-capability : goal.returns-then-not-fits-capability
-returns-then-not-fits-capability c = record { is = check_no _ _ _ _ c.in-ok-n.ensures.is (sym c.if-not-fits-capability.ensures); ahead = tt }
+pub returns-then-not-fits_capability : goal.returns-then-not-fits_capability
+returns-then-not-fits_capability c = record { is = check_no _ _ _ _ c.in_ok-n.ensures.is (sym c.if-not-fits_capability.ensures); ahead = tt }
 
 pub returns : goal.returns
-returns c = record { is = check_ok _ _ _ _ c.in-ok-n.ensures.is (sym c.if-not-fits-capability.ensures); ahead = c.in-ok-n.ensures.within }
+returns c = record { is = check_ok _ _ _ _ c.in_ok-n.ensures.is (sym c.if-not-fits_capability.ensures); ahead = c.in_ok-n.ensures.within }

@@ -4,13 +4,13 @@ use Rattle.entryfile.specs.Views.{family_view}
 use Rattle.entryfile.proofs.Checks.{exit, check_err, check_no, check_ok}
 use Rattle.entryfile.proofs.fields.family_at.Goals as goal
 
-pub returns-in-err-family : goal.returns-in-err-family
-returns-in-err-family c = record { is = ap family_view (exit _ c.from-residual.ensures.1) ∙ check_err _ _ _ _ c.in-err-family.ensures.is; figures = IfOk-from_err _ _ c.from-residual.ensures.0; ahead = IfOk-from_err _ _ c.from-residual.ensures.0 }
+pub returns-in_err-family : goal.returns-in_err-family
+returns-in_err-family c = record { is = ap family_view (exit _ c.from-residual.ensures.1) ∙ check_err _ _ _ _ c.in_err-family.ensures.is; figures = IfOk-from_err _ _ c.from-residual.ensures.0; ahead = IfOk-from_err _ _ c.from-residual.ensures.0 }
 
-pub returns-in-default : goal.returns-in-default
-returns-in-default c = record { is = check_no _ _ _ _ c.in-ok-family.ensures.is (sym (ap is_some c.in-default.ensures)); figures = tt; ahead = tt }
+pub returns-in_default : goal.returns-in_default
+returns-in_default c = record { is = check_no _ _ _ _ c.in_ok-family.ensures.is (sym (ap is_some c.in_default.ensures)); figures = tt; ahead = tt }
 
 pub returns : goal.returns
 returns c =
     let e = c.in-Some.ensures in
-    record { is = check_ok _ _ _ _ c.in-ok-family.ensures.is (sym (ap is_some e)); figures = ap (λ o. unwrap_or o 0) e; ahead = c.in-ok-family.ensures.within }
+    record { is = check_ok _ _ _ _ c.in_ok-family.ensures.is (sym (ap is_some e)); figures = ap (λ o. unwrap_or o 0) e; ahead = c.in_ok-family.ensures.within }

@@ -6,18 +6,18 @@ use Rattle.entryfile.proofs.Checks.{exit}
 use Rattle.entryfile.proofs.Counting.{figure_more, figure_stop, figures_none}
 use Rattle.entryfile.proofs.fields.figures_end.Goals as goal
 
-pub returns-in-err-after : goal.returns-in-err-after
-returns-in-err-after c =
+pub returns-in_err-after : goal.returns-in_err-after
+returns-in_err-after c =
     record {
-      is = exit _ c.from-residual.ensures.1 ∙ figure_stop c.args.file.now c.loop-figure.next (c.args.count - c.loop-figure.-figure) (omega arith) c.in-err-after.ensures.is ∙ c.loop-figure.invariant.0;
+      is = exit _ c.from-residual.ensures.1 ∙ figure_stop c.args.file.now c.loop-figure.next (c.args.count - c.loop-figure.-figure) (omega arith) c.in_err-after.ensures.is ∙ c.loop-figure.invariant.0;
       ahead = λ _. IfOk-from_err _ _ c.from-residual.ensures.0;
     }
 
 pub loop-figure-preserved : goal.loop-figure-preserved
 loop-figure-preserved c =
-    let told = c.in-ok-after.ensures in
+    let told = c.in_ok-after.ensures in
     let k : c.args.count - (c.loop-figure.-figure + 1) ≡ c.args.count - c.loop-figure.-figure - 1 = omega arith in (
-      ap (λ j. end_of (form_at (figures_form j) c.args.file.now c.in-ok-after.after)) k ∙ figure_more c.args.file.now c.loop-figure.next (c.args.count - c.loop-figure.-figure) _ _ (omega arith) told.is ∙ c.loop-figure.invariant.0,
+      ap (λ j. end_of (form_at (figures_form j) c.args.file.now c.in_ok-after.after)) k ∙ figure_more c.args.file.now c.loop-figure.next (c.args.count - c.loop-figure.-figure) _ _ (omega arith) told.is ∙ c.loop-figure.invariant.0,
       λ h. (omega (arith, told.ahead.0, (c.loop-figure.invariant.1 h).0), told.ahead.1),
     )
 

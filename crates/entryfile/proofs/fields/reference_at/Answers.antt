@@ -6,14 +6,14 @@ use Rattle.entryfile.proofs.Checks.{exit, check_number}
 use Rattle.entryfile.proofs.Places.{number_size, reference_ends}
 use Rattle.entryfile.proofs.fields.reference_at.Goals as goal
 
-pub returns-in-err-count : goal.returns-in-err-count
-returns-in-err-count c = record { is = ap bytes_view (exit _ c.from-residual.ensures.1) ∙ ap (after_length c.args.file.now) c.in-err-count.ensures.is; part = IfOk-from_err _ _ c.from-residual.ensures.0 }
+pub returns-in_err-count : goal.returns-in_err-count
+returns-in_err-count c = record { is = ap bytes_view (exit _ c.from-residual.ensures.1) ∙ ap (after_length c.args.file.now) c.in_err-count.ensures.is; part = IfOk-from_err _ _ c.from-residual.ensures.0 }
 
 pub returns : goal.returns
 returns c =
-    let told = c.in-ok-count.ensures.is in
-    let size = number_size c.args.file.now c.args.at c.text-at.ensures.bytes (check_number _ _ _ _ told) in
+    let told = c.in_ok-count.ensures.is in
+    let size = number_size c.args.file.now c.args.at c.text_at.ensures.bytes (check_number _ _ _ _ told) in
     record {
-      is = c.text-at.ensures.is ∙ ap (after_length c.args.file.now) told;
-      part = IfOk-weaker c.text-at.result _ _ (λ p w. (reference_ends _ _ _ _ _ w.0 size w.1, w.2)) c.text-at.ensures.part;
+      is = c.text_at.ensures.is ∙ ap (after_length c.args.file.now) told;
+      part = IfOk-weaker c.text_at.result _ _ (λ p w. (reference_ends _ _ _ _ _ w.0 size w.1, w.2)) c.text_at.ensures.part;
     }

@@ -4,13 +4,13 @@ use Rattle.entryfile.specs.Views.{mark_view}
 use Rattle.entryfile.proofs.Checks.{exit, check_err, check_no, check_ok, mark_within}
 use Rattle.entryfile.proofs.fields.sort_at.Goals as goal
 
-pub returns-in-err-n : goal.returns-in-err-n
-returns-in-err-n c = record { is = ap mark_view (exit _ c.from-residual.ensures.1) ∙ check_err _ _ _ _ c.in-err-n.ensures.is; ahead = IfOk-from_err _ _ c.from-residual.ensures.0 }
+pub returns-in_err-n : goal.returns-in_err-n
+returns-in_err-n c = record { is = ap mark_view (exit _ c.from-residual.ensures.1) ∙ check_err _ _ _ _ c.in_err-n.ensures.is; ahead = IfOk-from_err _ _ c.from-residual.ensures.0 }
 
-pub returns-in-default : goal.returns-in-default
-returns-in-default c = record { is = check_no _ _ _ _ c.in-ok-n.ensures.is c.in-default.ensures; ahead = tt }
+pub returns-in_default : goal.returns-in_default
+returns-in_default c = record { is = check_no _ _ _ _ c.in_ok-n.ensures.is c.in_default.ensures; ahead = tt }
 
 pub returns : goal.returns
 returns c =
     let e = c.in-Some.ensures in
-    record { is = ap (λ n. Ok (n, c.in-ok-n.next)) e ∙ check_ok _ _ _ _ c.in-ok-n.ensures.is (mark_within c.in-Some.sort _ e); ahead = c.in-ok-n.ensures.within }
+    record { is = ap (λ n. Ok (n, c.in_ok-n.next)) e ∙ check_ok _ _ _ _ c.in_ok-n.ensures.is (mark_within c.in-Some.sort _ e); ahead = c.in_ok-n.ensures.within }

@@ -8,17 +8,17 @@ use Rattle.entryfile.proofs.Checks.{exit}
 use Rattle.entryfile.proofs.Sequence.{price_more, price_stop, ahead_none}
 use Rattle.entryfile.proofs.head.prices_at.Goals as goal
 
-pub returns-in-err-price : goal.returns-in-err-price
-returns-in-err-price c =
+pub returns-in_err-price : goal.returns-in_err-price
+returns-in_err-price c =
     record {
-      is = ap (prices_view c.args.count) (exit _ c.from-residual.ensures.1) ∙ price_stop (take c.loop-i.i c.loop-i.prices) (c.args.count - c.loop-i.i) c.args.file.now c.loop-i.next (omega arith) c.in-err-price.ensures.is ∙ sym c.loop-i.invariant.0;
+      is = ap (prices_view c.args.count) (exit _ c.from-residual.ensures.1) ∙ price_stop (take c.loop-i.i c.loop-i.prices) (c.args.count - c.loop-i.i) c.args.file.now c.loop-i.next (omega arith) c.in_err-price.ensures.is ∙ sym c.loop-i.invariant.0;
       size = IfOk-from_err _ _ c.from-residual.ensures.0;
     }
 
 pub loop-i-preserved : goal.loop-i-preserved
 loop-i-preserved c =
     let k : c.args.count - c.loop-i.i - 1 ≡ c.args.count - (c.loop-i.i + 1) = omega arith in (
-      c.loop-i.invariant.0 ∙ price_more c.loop-i.prices c.loop-i.i (c.args.count - c.loop-i.i) c.args.file.now c.loop-i.next c.in-ok-price.after c.in-ok-price.price (omega arith) (omega arith) c.in-ok-price.ensures.is ∙ ap (λ j. ahead (take (c.loop-i.i + 1) (set c.loop-i.prices c.loop-i.i c.in-ok-price.price)) (form_at (prices_form j done) c.args.file.now c.in-ok-price.after)) k,
+      c.loop-i.invariant.0 ∙ price_more c.loop-i.prices c.loop-i.i (c.args.count - c.loop-i.i) c.args.file.now c.loop-i.next c.in_ok-price.after c.in_ok-price.price (omega arith) (omega arith) c.in_ok-price.ensures.is ∙ ap (λ j. ahead (take (c.loop-i.i + 1) (set c.loop-i.prices c.loop-i.i c.in_ok-price.price)) (form_at (prices_form j done) c.args.file.now c.in_ok-price.after)) k,
       simp length-set c.loop-i.invariant.1,
     )
 

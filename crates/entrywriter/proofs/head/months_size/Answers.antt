@@ -5,13 +5,13 @@ use Rattle.entryfile.specs.Files.{month_numbers}
 use Rattle.entrywriter.proofs.Heads.{months_size_more}
 use Rattle.entrywriter.proofs.head.months_size.Goals as goal
 
-pub overflow-add-size : goal.overflow-add-size
-overflow-add-size c = omega (arith, c.requires, c.loop-month.invariant.1, c.numbers-size-size.ensures.few)
+pub overflow_add-size : goal.overflow_add-size
+overflow_add-size c = omega (arith, c.requires, c.loop-month.invariant.1, c.numbers_size-size.ensures.few)
 
 pub loop-month-preserved : goal.loop-month-preserved
 loop-month-preserved c = (
-  omega (arith, c.loop-month.invariant.0, c.numbers-size-size.ensures.is, months_size_more c.args.months.now c.loop-month.month-index (record { days = 0; factor = 0 }) c.loop-month-test.true),
-  omega (arith, c.loop-month.invariant.1, c.numbers-size-size.ensures.few),
+  omega (arith, c.loop-month.invariant.0, c.numbers_size-size.ensures.is, months_size_more c.args.months.now c.loop-month.month-index (record { days = 0; factor = 0 }) c.loop-month-test.true),
+  omega (arith, c.loop-month.invariant.1, c.numbers_size-size.ensures.few),
 )
 
 pub returns : goal.returns

@@ -7,15 +7,15 @@ use Rattle.entrywriter.proofs.Heads.{months_more, months_size_more}
 use Rattle.entrywriter.proofs.Puts.{sets_then}
 use Rattle.entrywriter.proofs.head.put_months.Goals as goal
 
-pub put-numbers-next-requires : goal.put-numbers-next-requires
-put-numbers-next-requires c = omega (arith, c.requires, c.loop-month.invariant.1, c.loop-month.auto.buf, months_size_more c.args.months.now c.loop-month.month-index (record { days = 0; factor = 0 }) c.loop-month-test.true)
+pub put_numbers-next-requires : goal.put_numbers-next-requires
+put_numbers-next-requires c = omega (arith, c.requires, c.loop-month.invariant.1, c.loop-month.auto.buf, months_size_more c.args.months.now c.loop-month.month-index (record { days = 0; factor = 0 }) c.loop-month-test.true)
 
 pub loop-month-preserved : goal.loop-month-preserved
 loop-month-preserved c =
     let ms = c.args.months.now in
     let i = c.loop-month.month-index in (
-      sets_then (numbers_bytes (month_numbers (drop (i + 1) ms))) c.put-numbers-next.ensures ∙ ap (sets c.loop-month.buf c.loop-month.next) (sym (months_more ms i (record { days = 0; factor = 0 }) c.loop-month-test.true)) ∙ c.loop-month.invariant.0,
-      omega (arith, c.loop-month.invariant.1, c.put-numbers-next.ensures.ends, months_size_more ms i (record { days = 0; factor = 0 }) c.loop-month-test.true),
+      sets_then (numbers_bytes (month_numbers (drop (i + 1) ms))) c.put_numbers-next.ensures ∙ ap (sets c.loop-month.buf c.loop-month.next) (sym (months_more ms i (record { days = 0; factor = 0 }) c.loop-month-test.true)) ∙ c.loop-month.invariant.0,
+      omega (arith, c.loop-month.invariant.1, c.put_numbers-next.ensures.ends, months_size_more ms i (record { days = 0; factor = 0 }) c.loop-month-test.true),
     )
 
 pub returns : goal.returns

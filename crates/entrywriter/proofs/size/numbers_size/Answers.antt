@@ -5,12 +5,12 @@ use Rattle.entryfile.specs.Items.{numbers_bytes}
 use Rattle.entrywriter.proofs.Joining.{size_more, under_numbers}
 use Rattle.entrywriter.proofs.size.numbers_size.Goals as goal
 
-pub overflow-add-size : goal.overflow-add-size
-overflow-add-size c = omega (arith, c.loop-number.invariant.1, encode_few (get_or c.args.numbers.now c.loop-number.number-index 0) (omega (arith, c.type-inv.numbers c.loop-number.number-index)))
+pub overflow_add-size : goal.overflow_add-size
+overflow_add-size c = omega (arith, c.loop-number.invariant.1, encode_few (get_or c.args.numbers.now c.loop-number.number-index 0) (omega (arith, c.type_inv.numbers c.loop-number.number-index)))
 
 pub loop-number-preserved : goal.loop-number-preserved
 loop-number-preserved c =
-    let few = encode_few (get_or c.args.numbers.now c.loop-number.number-index 0) (omega (arith, c.type-inv.numbers c.loop-number.number-index)) in
+    let few = encode_few (get_or c.args.numbers.now c.loop-number.number-index 0) (omega (arith, c.type_inv.numbers c.loop-number.number-index)) in
     (omega (arith, c.loop-number.invariant.0, size_more c.args.numbers.now c.loop-number.number-index c.loop-number-test.true), omega (arith, c.loop-number.invariant.1))
 
 pub returns : goal.returns
@@ -20,5 +20,5 @@ returns c =
       is = omega (arith, c.loop-number.invariant.0);
       few = omega (arith, c.loop-number.invariant.1);
       below = omega (arith, c.loop-number.invariant.1);
-      small = under_numbers c.args.numbers.now (λ i. omega (arith, c.type-inv.numbers i));
+      small = under_numbers c.args.numbers.now (λ i. omega (arith, c.type_inv.numbers i));
     }

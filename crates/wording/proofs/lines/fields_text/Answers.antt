@@ -4,19 +4,19 @@ use Rattle.wording.specs.Lines.{fields_text}
 use Rattle.wording.proofs.lines.fields_text.Goals as goal
 
 pub returns-in-Award : goal.returns-in-Award
-returns-in-Award c = IfOk-weaker c.whole-award-text.result _ _ (λ s h. h ∙ sym (ap fields_text c.in-Award.is)) c.whole-award-text.ensures
+returns-in-Award c = IfOk-weaker c.whole_award_text.result _ _ (λ s h. h ∙ sym (ap fields_text c.in-Award.is)) c.whole_award_text.ensures
 
 pub returns-in-Lodge : goal.returns-in-Lodge
-returns-in-Lodge c = IfOk-weaker c.whole-lodge-text.result _ _ (λ s h. h ∙ sym (ap fields_text c.in-Lodge.is)) c.whole-lodge-text.ensures
+returns-in-Lodge c = IfOk-weaker c.whole_lodge_text.result _ _ (λ s h. h ∙ sym (ap fields_text c.in-Lodge.is)) c.whole_lodge_text.ensures
 
 pub returns-in-BuyOut : goal.returns-in-BuyOut
-returns-in-BuyOut c = IfOk-weaker c.quantity-text.result _ _ (λ s h. h ∙ sym (ap fields_text c.in-BuyOut.is)) c.quantity-text.ensures
+returns-in-BuyOut c = IfOk-weaker c.quantity_text.result _ _ (λ s h. h ∙ sym (ap fields_text c.in-BuyOut.is)) c.quantity_text.ensures
 
 pub returns-in-Reduction : goal.returns-in-Reduction
 returns-in-Reduction c = IfOk-weaker c.quantity-text_in-Reduction.result _ _ (λ s h. h ∙ sym (ap fields_text c.in-Reduction.is)) c.quantity-text_in-Reduction.ensures
 
 pub returns-in-Standby : goal.returns-in-Standby
-returns-in-Standby c = IfOk-weaker c.standby-text.result _ _ (λ s h. h ∙ sym (ap fields_text c.in-Standby.is)) c.standby-text.ensures
+returns-in-Standby c = IfOk-weaker c.standby_text.result _ _ (λ s h. h ∙ sym (ap fields_text c.in-Standby.is)) c.standby_text.ensures
 
 pub returns-in-Test : goal.returns-in-Test
-returns-in-Test c = IfOk-weaker c.test-text.result _ _ (λ s h. h ∙ sym (ap fields_text c.in-Test.is)) c.test-text.ensures
+returns-in-Test c = IfOk-weaker c.test_text.result _ _ (λ s h. h ∙ sym (ap fields_text c.in-Test.is)) c.test_text.ensures

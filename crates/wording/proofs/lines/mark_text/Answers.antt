@@ -4,4 +4,4 @@ use Rattle.wording.specs.Lines.{numbered_mark}
 use Rattle.wording.proofs.lines.mark_text.Goals as goal
 
 pub returns : goal.returns
-returns c = IfOk-weaker c.numbered-mark.result _ _ (λ s h. h ∙ ap (λ n. numbered_mark c.args.award n c.mark-name.result.now) c.number.ensures ∙ ap (numbered_mark c.args.award _) c.mark-name.ensures) c.numbered-mark.ensures
+returns c = IfOk-weaker c.numbered_mark.result _ _ (λ s h. h ∙ ap (λ n. numbered_mark c.args.award n c.mark_name.result.now) c.number.ensures ∙ ap (numbered_mark c.args.award _) c.mark_name.ensures) c.numbered_mark.ensures

@@ -5,6 +5,6 @@ use Rattle.wording.proofs.lines.whole_lodge_text.Goals as goal
 
 pub returns : goal.returns
 returns c =
-    IfOk-weaker c.lodge-text.result _ _
-    (λ s h. h ∙ ap (λ l. lodge_text c.args.award l c.as-str-2.result.now c.args.quantity c.args.capability) (c.as-str.ensures.value ∙ c.in-ok-holding.ensures) ∙ ap (λ l. lodge_text c.args.award (holding_text c.args.holder c.args.zone) l c.args.quantity c.args.capability) (c.as-str-2.ensures.value ∙ c.in-ok-kind.ensures))
-    c.lodge-text.ensures
+    IfOk-weaker c.lodge_text.result _ _
+    (λ s h. h ∙ ap (λ l. lodge_text c.args.award l c.as_str-2.result.now c.args.quantity c.args.capability) (c.as_str.ensures.value ∙ c.in_ok-holding.ensures) ∙ ap (λ l. lodge_text c.args.award (holding_text c.args.holder c.args.zone) l c.args.quantity c.args.capability) (c.as_str-2.ensures.value ∙ c.in_ok-kind.ensures))
+    c.lodge_text.ensures

@@ -4,8 +4,8 @@ use Rattle.entryfile.specs.Steps.{FromFile}
 use Rattle.entryfile.proofs.Handed.{step_taken}
 use Rattle.filereader.proofs.reader.Reader.next_entry.Goals as goal
 
-pub invariant-of-self : goal.invariant-of-self
-invariant-of-self c =
+pub invariant_of-self : goal.invariant_of-self
+invariant_of-self c =
     let h = c.in-Ok.ensures.handed c.args.self.now.within in
     (h.bytes.within, (omega (arith, h.onward, c.args.self.now.few), tt))
 
