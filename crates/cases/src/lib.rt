@@ -1,4 +1,6 @@
 // Worked examples of the writer, and of reading back what it wrote.
+#![tactic(auto)]
+
 #[cfg(test)]
 mod tests {
     use entryfile::{Entry, Figures, Turn};

@@ -1,5 +1,5 @@
 -- Reading figures one by one.
-use Rattle.std.proofs.Common.{◌≡◌, ℕ, zero, suc, ◌-◌, ◌<◌, List, Ok, Err, Result, sym, refl, ap, ◌∙◌, arith}
+use Rattle.std.proofs.Common.{◌≡◌, ℕ, zero, suc, ◌-◌, ◌<◌, List, Ok, Err, sym, refl, ap, ◌∙◌, arith}
 use Rattle.market.specs.Ranges.{within, limit}
 use Rattle.entryfile.specs.declared.fault.EntryFault.{EntryFault}
 use Rattle.entryfile.specs.declared.fault.EntryFault.TheVariants.{OutOfRange}

@@ -1,10 +1,9 @@
 -- What was read of an opening, and the opening that is made of it.
-use Rattle.std.proofs.Common.{◌≡◌, ℕ, ◌-◌, ◌≤◌, List, ◌∷◌, ◌++◌, length, take, sym, refl, ap, ◌∙◌, arith, length-take-le}
+use Rattle.std.proofs.Common.{◌≡◌, ℕ, ◌-◌, List, ◌∷◌, ◌++◌, length, take, ap, ◌∙◌, arith, length-take-le}
 use Rattle.market.specs.Openings.{Terms, terms}
-use Rattle.market.specs.declared.month.Month.{Month}
 use Rattle.entryfile.specs.declared.head.Calendar.{Calendar}
 use Rattle.entryfile.specs.Files.{month_numbers, zone_numbers, opening_numbers}
-use Rattle.entryfile.specs.Heads.{Sized, calendar_numbers, shares_numbers, window_numbers}
+use Rattle.entryfile.specs.Heads.{Sized, calendar_numbers, shares_numbers}
 
 -- the terms that are handed to a new opening, with parts of arrays as the checker reads them
 abbrev pub terms_read : Calendar → Terms

@@ -1,11 +1,11 @@
 -- The numbers of an opening have the form of an opening just where its terms are in their ranges.
-use Rattle.std.proofs.Common.{◌≡◌, ℕ, Bool, true, false, ◌&&◌, List, [], ◌∷◌, ◌++◌, length, sym, refl, ap, ◌∙◌}
+use Rattle.std.proofs.Common.{◌≡◌, ℕ, Bool, true, false, ◌&&◌, List, [], ◌∷◌, ◌++◌, length, refl, ap, ◌∙◌}
 use Rattle.market.specs.Ranges.{within, every, limit}
-use Rattle.market.specs.Openings.{Terms, terms, terms_in_range, month_in_range, calendar_fits, prices_fit}
+use Rattle.market.specs.Openings.{Terms, terms_in_range, month_in_range, prices_fit}
 use Rattle.market.specs.declared.month.Month.{Month}
 use Rattle.entryfile.specs.Forms.{Form, accepts}
 use Rattle.entryfile.specs.Layout.{opening_form, months_form, prices_form, shares_form, window_form, zones_form}
-use Rattle.entryfile.specs.Files.{month_numbers, zone_numbers, opening_numbers, head_form, head_numbers}
+use Rattle.entryfile.specs.Files.{month_numbers, zone_numbers, opening_numbers}
 
 and_assoc : (a b c : Bool) → (a && (b && c)) ≡ ((a && b) && c)
 and_assoc true b c = refl

@@ -1,11 +1,11 @@
 -- Forms that follow one another, and loops that read them.
-use Rattle.std.proofs.Common.{◌≡◌, ℕ, zero, suc, ◌+◌, ◌-◌, ◌<◌, ◌≤◌, Bool, List, [], ◌∷◌, ◌++◌, length, take, set, Ok, Err, sym, refl, ap, ◌∙◌, append-nil, arith}
+use Rattle.std.proofs.Common.{◌≡◌, ℕ, zero, suc, ◌+◌, ◌-◌, ◌<◌, Bool, List, [], ◌∷◌, ◌++◌, length, take, set, Ok, Err, sym, refl, ap, ◌∙◌, append-nil, arith}
 use Rattle.std.proofs.lemmas.List.{take_more_set}
 use Rattle.market.specs.declared.month.Month.{Month}
 use Rattle.market.specs.Ranges.{within, limit}
 use Rattle.entryfile.specs.declared.fault.EntryFault.{EntryFault}
 use Rattle.entryfile.specs.declared.fault.EntryFault.TheVariants.{OutOfRange}
-use Rattle.entryfile.specs.Forms.{Form, done, field, Got, checked_at, more, ahead, after_field, form_at}
+use Rattle.entryfile.specs.Forms.{Form, done, Got, checked_at, more, ahead, after_field, form_at}
 use Rattle.entryfile.specs.Layout.{number, month_form, months_form, prices_form}
 use Rattle.entryfile.specs.Files.{month_numbers}
 

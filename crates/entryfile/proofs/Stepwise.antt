@@ -1,7 +1,7 @@
 -- A form that is read number by number, and then the entry's reference.
-use Rattle.std.proofs.Common.{◌≡◌, ℕ, Bool, List, [], ◌∷◌, ◌++◌, Ok, Err, sym, refl, ap, ◌∙◌}
+use Rattle.std.proofs.Common.{◌≡◌, ℕ, Bool, List, [], ◌∷◌, ◌++◌, Ok, sym, refl, ap, ◌∙◌}
 use Rattle.entryfile.specs.declared.fault.EntryFault.{EntryFault}
-use Rattle.entryfile.specs.Forms.{Form, done, field, Got, checked_at, more, ahead, after_field, form_at}
+use Rattle.entryfile.specs.Forms.{Form, done, field, checked_at, more, ahead, after_field, form_at}
 use Rattle.entryfile.specs.Items.{item, called, reference_at, with_reference, entry_with}
 use Rattle.entryfile.proofs.Sequence.{ahead-ok}
 

@@ -63,12 +63,12 @@ module _ (file : List ℕ) (under : AllBelowBase 256 file) where
   text_has : (n at : ℕ) → at ≤ length file → IfOk (text_at n file at) (Text n at)
   unfolding text_at
   text_has n at h =
-      cond_both (ltb (length file - at) n) _ _ (λ r. IfOk {Y = EntryFault} r (Text n at)) (λ _. tt)
+      cond_both (ltb (length file - at) n) _ _ (λ r. IfOk {E = EntryFault} r (Text n at)) (λ _. tt)
       (λ e.
       let room = ltb-false (length file - at) n e in
       let end : at + n ≤ length file = omega arith in
       let k : at + n - at ≡ n = omega arith in
-      cond_both (every printable (between at (at + n) file)) _ _ (λ r. IfOk {Y = EntryFault} r (Text n at))
+      cond_both (every printable (between at (at + n) file)) _ _ (λ r. IfOk {E = EntryFault} r (Text n at))
       (λ p. (p, length-between file at (at + n) end ∙ k, record { is = refl; on = omega arith; within = end }))
       (λ _. tt))
 

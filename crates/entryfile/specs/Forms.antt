@@ -1,6 +1,6 @@
 -- Forms: which numbers stand one after another in a file, each with the test that it has to pass. A later test may
 -- depend on the numbers before it. Reading by a form goes from the left, and the first fault is the answer.
-use Rattle.std.specs.Prelude.{ℕ, zero, suc, Bool, true, false, cond, ◌&&◌, List, [], ◌∷◌, Ok, Err, Result}
+use Rattle.std.specs.Prelude.{ℕ, Bool, true, false, cond, ◌&&◌, List, [], ◌∷◌, Ok, Err, Result}
 use Rattle.number.specs.Numbers.{number_at}
 use Rattle.number.specs.declared.NumberFault.{NumberFault}
 use Rattle.entryfile.specs.declared.fault.EntryFault.{EntryFault}

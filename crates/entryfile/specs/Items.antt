@@ -1,8 +1,7 @@
 -- Entries as they stand in a file: their numbers and their reference.
-use Rattle.std.specs.Prelude.{ℕ, ◌+◌, ◌-◌, Bool, cond, ◌&&◌, List, [], ◌∷◌, ◌++◌, length, Ok, Err, nat_lt}
+use Rattle.std.specs.Prelude.{ℕ, ◌+◌, ◌-◌, Bool, cond, ◌&&◌, List, ◌++◌, length, Ok, Err, nat_lt}
 use Rattle.std.specs.List.{flat_map, between}
 use Rattle.number.specs.Numbers.{encode}
-use Rattle.number.specs.declared.NumberFault.{NumberFault}
 use Rattle.number.specs.declared.NumberCause.TheVariants.{Ends}
 use Rattle.market.specs.Ranges.{within, every}
 use Rattle.market.specs.declared.family.Family.{Family}

@@ -1,5 +1,5 @@
 -- What the reader answers, and where it stands then.
-use Rattle.std.specs.Prelude.{◌≡◌, ℕ, ◌+◌, ◌-◌, ◌<◌, ◌≤◌, cond, List, length, Some, None, Ok, Err, Option, Result, nat_le}
+use Rattle.std.specs.Prelude.{◌≡◌, ℕ, ◌+◌, ◌-◌, ◌<◌, cond, List, length, Some, None, Ok, Err, Option, Result, nat_le}
 use Rattle.std.specs.List.{between}
 use Rattle.number.specs.declared.NumberCause.{NumberCause}
 use Rattle.number.specs.declared.NumberCause.TheVariants.{Ends, Padded, Large}

@@ -1,4 +1,6 @@
 // The layout of an entry file: its opening, the thirteen entries, how each is read, and the faults of layers 1 and 2.
+#![tactic(auto)]
+
 mod entries;
 mod entry;
 mod fault;

@@ -1,4 +1,6 @@
 // Writing entry files: the version and the opening, or one entry under a given opening, at the front of a buffer.
+#![tactic(auto)]
+
 ghost use Rattle.std.specs.Prelude.{◌≡◌};
 ghost use Rattle.market.specs.Opened.{terms_of};
 ghost use Rattle.entryfile.specs.Views.{item_of};

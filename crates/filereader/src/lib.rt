@@ -1,4 +1,6 @@
 // Reading an entry file from its front to its end: version and opening, then entry by entry.
+#![tactic(auto)]
+
 mod next;
 mod reader;
 mod survey;

@@ -1,4 +1,6 @@
 // Lists an entry file from standard input, and says where it goes wrong.
+#![tactic(auto)]
+
 use std::io;
 
 fn main(rt: HostRuntime) -> io::Result<()> {

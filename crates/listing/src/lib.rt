@@ -1,4 +1,6 @@
 // The report of `inspect` on an entry file: its opening, its entries one by one, and the first fault, in plain words.
+#![tactic(auto)]
+
 mod figures;
 mod input;
 mod report;

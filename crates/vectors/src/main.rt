@@ -1,6 +1,8 @@
 // Runs the reader over a table of small files and prints how far it comes in each. A line of the table is a name, a
 // colon and the bytes of a file in hexadecimal; 72*6E stands for 72 bytes 6E. Empty lines and lines that begin with #
 // are passed over.
+#![tactic(auto)]
+
 ghost use Rattle.std.specs.Prelude.{◌≡◌, ◌+◌, ◌<◌, ◌≤◌, length, IfSome, IfErr, OnOk};
 ghost use Rattle.filereader.specs.Readers.{file_of};
 ghost use Rattle.vectors.specs.Hex.{digit_of, spelled};

@@ -1,4 +1,6 @@
 // The words in which a listing tells of entries and faults. What each function writes is pinned by its contract.
+#![tactic(auto)]
+
 mod lines;
 mod words;
 

@@ -1,6 +1,6 @@
 use Rattle.std.proofs.Common.{[], ◌∷◌}
 use Rattle.entryfile.specs.Layout.{award_form}
-use Rattle.entryfile.proofs.Stepwise.{Reads, end, one, entry_read}
+use Rattle.entryfile.proofs.Stepwise.{end, one, entry_read}
 use Rattle.entryfile.proofs.entries.read_award.Goals as goal
 
 pub returns : goal.returns

@@ -1,6 +1,6 @@
 use Rattle.std.proofs.Common.{[], ◌∷◌}
 use Rattle.entryfile.specs.Layout.{lodge_form}
-use Rattle.entryfile.proofs.Stepwise.{Reads, end, one, entry_read}
+use Rattle.entryfile.proofs.Stepwise.{end, one, entry_read}
 use Rattle.entryfile.proofs.entries.read_lodge.Goals as goal
 
 pub returns : goal.returns

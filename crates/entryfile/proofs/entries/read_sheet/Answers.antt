@@ -1,9 +1,9 @@
-use Rattle.std.proofs.Common.{[], ◌∷◌, sym, ap, ◌∙◌}
+use Rattle.std.proofs.Common.{[], ◌∷◌, ap, ◌∙◌}
 use Rattle.entryfile.specs.Forms.{form_at}
 use Rattle.entryfile.specs.Layout.{sheet_form, figures_form}
 use Rattle.entryfile.specs.Items.{reference_bytes}
 use Rattle.entryfile.proofs.Places.{part_before}
-use Rattle.entryfile.proofs.Stepwise.{Reads, all, one, entry_read}
+use Rattle.entryfile.proofs.Stepwise.{all, one, entry_read}
 use Rattle.entryfile.proofs.entries.read_sheet.Goals as goal
 
 pub returns : goal.returns

@@ -1,4 +1,4 @@
-use Rattle.std.proofs.Common.{◌≡◌, ◌+◌, ◌-◌, sym, ap, ◌∙◌, arith}
+use Rattle.std.proofs.Common.{◌≡◌, ◌+◌, ◌-◌, ap, ◌∙◌, arith}
 use Rattle.std.proofs.lemmas.Result.{IfOk-from_err}
 use Rattle.entryfile.specs.Forms.{form_at, end_of}
 use Rattle.entryfile.specs.Layout.{figures_form}
@@ -9,21 +9,21 @@ use Rattle.entryfile.proofs.fields.figures_end.Goals as goal
 pub returns-in_err-after : goal.returns-in_err-after
 returns-in_err-after c =
     record {
-      is = exit _ c.from-residual.ensures.1 ∙ figure_stop c.args.file.now c.loop-figure.next (c.args.count - c.loop-figure.-figure) (omega arith) c.in_err-after.ensures.is ∙ c.loop-figure.invariant.0;
-      ahead = λ _. IfOk-from_err _ _ c.from-residual.ensures.0;
+      is = exit _ c.from_residual.ensures.1 ∙ figure_stop c.args.file.now c.loop-figure.next (c.args.count - c.loop-figure._figure) (omega arith) c.in_err-after.ensures.is ∙ c.loop-figure.invariant.0;
+      ahead = λ _. IfOk-from_err _ _ c.from_residual.ensures.0;
     }
 
 pub loop-figure-preserved : goal.loop-figure-preserved
 loop-figure-preserved c =
     let told = c.in_ok-after.ensures in
-    let k : c.args.count - (c.loop-figure.-figure + 1) ≡ c.args.count - c.loop-figure.-figure - 1 = omega arith in (
-      ap (λ j. end_of (form_at (figures_form j) c.args.file.now c.in_ok-after.after)) k ∙ figure_more c.args.file.now c.loop-figure.next (c.args.count - c.loop-figure.-figure) _ _ (omega arith) told.is ∙ c.loop-figure.invariant.0,
+    let k : c.args.count - (c.loop-figure._figure + 1) ≡ c.args.count - c.loop-figure._figure - 1 = omega arith in (
+      ap (λ j. end_of (form_at (figures_form j) c.args.file.now c.in_ok-after.after)) k ∙ figure_more c.args.file.now c.loop-figure.next (c.args.count - c.loop-figure._figure) _ _ (omega arith) told.is ∙ c.loop-figure.invariant.0,
       λ h. (omega (arith, told.ahead.0, (c.loop-figure.invariant.1 h).0), told.ahead.1),
     )
 
 pub returns : goal.returns
 returns c =
     record {
-      is = figures_none c.args.file.now c.loop-figure.next (c.args.count - c.loop-figure.-figure) (omega arith) ∙ c.loop-figure.invariant.0;
+      is = figures_none c.args.file.now c.loop-figure.next (c.args.count - c.loop-figure._figure) (omega arith) ∙ c.loop-figure.invariant.0;
       ahead = c.loop-figure.invariant.1;
     }

@@ -1,10 +1,10 @@
-use Rattle.std.proofs.Common.{sym, ap, ◌∙◌}
+use Rattle.std.proofs.Common.{sym, ◌∙◌}
 use Rattle.std.proofs.lemmas.Result.{IfOk-from_err}
 use Rattle.entryfile.proofs.Checks.{exit, check_err, check_no, check_ok}
 use Rattle.entryfile.proofs.fields.known_at.Goals as goal
 
 pub returns-in_err-n : goal.returns-in_err-n
-returns-in_err-n c = record { is = (exit _ c.from-residual.ensures.1) ∙ check_err _ _ _ _ c.in_err-n.ensures.is; ahead = IfOk-from_err _ _ c.from-residual.ensures.0 }
+returns-in_err-n c = record { is = (exit _ c.from_residual.ensures.1) ∙ check_err _ _ _ _ c.in_err-n.ensures.is; ahead = IfOk-from_err _ _ c.from_residual.ensures.0 }
 
 pub returns-then-not-in_range : goal.returns-then-not-in_range
 returns-then-not-in_range c = record { is = check_no _ _ _ _ c.in_ok-n.ensures.is (sym c.if-not-in_range.ensures); ahead = tt }

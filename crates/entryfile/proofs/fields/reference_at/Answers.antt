@@ -1,4 +1,4 @@
-use Rattle.std.proofs.Common.{◌≡◌, sym, ap, ◌∙◌}
+use Rattle.std.proofs.Common.{ap, ◌∙◌}
 use Rattle.std.proofs.lemmas.Result.{IfOk-from_err, IfOk-weaker}
 use Rattle.entryfile.specs.Items.{after_length}
 use Rattle.entryfile.specs.Views.{bytes_view}
@@ -7,7 +7,7 @@ use Rattle.entryfile.proofs.Places.{number_size, reference_ends}
 use Rattle.entryfile.proofs.fields.reference_at.Goals as goal
 
 pub returns-in_err-count : goal.returns-in_err-count
-returns-in_err-count c = record { is = ap bytes_view (exit _ c.from-residual.ensures.1) ∙ ap (after_length c.args.file.now) c.in_err-count.ensures.is; part = IfOk-from_err _ _ c.from-residual.ensures.0 }
+returns-in_err-count c = record { is = ap bytes_view (exit _ c.from_residual.ensures.1) ∙ ap (after_length c.args.file.now) c.in_err-count.ensures.is; part = IfOk-from_err _ _ c.from_residual.ensures.0 }
 
 pub returns : goal.returns
 returns c =

@@ -14,15 +14,15 @@ months_at-requires c = leb-true _ _ (and_parts _ _ (check_passed _ _ _ _ c.in_ok
 pub returns-in_err-months : goal.returns-in_err-months
 returns-in_err-months c =
     record {
-      is = ap calendar_view (exit _ c.from-residual-in_err-months.ensures.1) ∙ items_stop months_form window_form c.args.file.now (λ n. months_then n window_form c.args.file.now) (within 1 6) c.args.at c.in_ok-count.ensures.is c.in_err-months.ensures.is;
-      size = IfOk-from_err _ _ c.from-residual-in_err-months.ensures.0;
+      is = ap calendar_view (exit _ c.from_residual-in_err-months.ensures.1) ∙ items_stop months_form window_form c.args.file.now (λ n. months_then n window_form c.args.file.now) (within 1 6) c.args.at c.in_ok-count.ensures.is c.in_err-months.ensures.is;
+      size = IfOk-from_err _ _ c.from_residual-in_err-months.ensures.0;
     }
 
 pub returns-in_err-window : goal.returns-in_err-window
 returns-in_err-window c =
     record {
-      is = ap calendar_view (exit _ c.from-residual-in_err-window.ensures.1) ∙ rest_stop months_form window_form c.args.file.now (λ n. months_then n window_form c.args.file.now) (within 1 6) c.args.at c.in_ok-count.ensures.is c.in_ok-months.ensures.is c.in_err-window.ensures.is;
-      size = IfOk-from_err _ _ c.from-residual-in_err-window.ensures.0;
+      is = ap calendar_view (exit _ c.from_residual-in_err-window.ensures.1) ∙ rest_stop months_form window_form c.args.file.now (λ n. months_then n window_form c.args.file.now) (within 1 6) c.args.at c.in_ok-count.ensures.is c.in_ok-months.ensures.is c.in_err-window.ensures.is;
+      size = IfOk-from_err _ _ c.from_residual-in_err-window.ensures.0;
     }
 
 pub returns : goal.returns

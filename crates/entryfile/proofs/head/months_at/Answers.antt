@@ -1,4 +1,4 @@
-use Rattle.std.proofs.Common.{◌≡◌, ◌+◌, ◌-◌, [], length, take, set, Ok, sym, ap, ◌∙◌, arith, length-set}
+use Rattle.std.proofs.Common.{◌≡◌, ◌+◌, ◌-◌, take, set, Ok, sym, ap, ◌∙◌, arith, length-set}
 use Rattle.std.proofs.lemmas.Result.{IfOk-from_err}
 use Rattle.entryfile.specs.Forms.{done, ahead, form_at}
 use Rattle.entryfile.specs.Layout.{months_form}
@@ -11,8 +11,8 @@ use Rattle.entryfile.proofs.head.months_at.Goals as goal
 pub returns-in_err-month : goal.returns-in_err-month
 returns-in_err-month c =
     record {
-      is = ap (months_view c.args.count) (exit _ c.from-residual.ensures.1) ∙ month_stop (month_numbers (take c.loop-i.i c.loop-i.months)) (c.args.count - c.loop-i.i) c.args.file.now c.loop-i.next (omega arith) c.in_err-month.ensures ∙ sym c.loop-i.invariant.0;
-      size = IfOk-from_err _ _ c.from-residual.ensures.0;
+      is = ap (months_view c.args.count) (exit _ c.from_residual.ensures.1) ∙ month_stop (month_numbers (take c.loop-i.i c.loop-i.months)) (c.args.count - c.loop-i.i) c.args.file.now c.loop-i.next (omega arith) c.in_err-month.ensures ∙ sym c.loop-i.invariant.0;
+      size = IfOk-from_err _ _ c.from_residual.ensures.0;
     }
 
 pub loop-i-preserved : goal.loop-i-preserved

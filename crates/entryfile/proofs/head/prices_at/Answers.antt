@@ -1,8 +1,7 @@
-use Rattle.std.proofs.Common.{◌≡◌, ◌+◌, ◌-◌, [], length, take, set, Ok, sym, ap, ◌∙◌, arith, length-set}
+use Rattle.std.proofs.Common.{◌≡◌, ◌+◌, ◌-◌, take, set, Ok, sym, ap, ◌∙◌, arith, length-set}
 use Rattle.std.proofs.lemmas.Result.{IfOk-from_err}
 use Rattle.entryfile.specs.Forms.{done, ahead, form_at}
 use Rattle.entryfile.specs.Layout.{prices_form}
-use Rattle.entryfile.specs.Files.{month_numbers}
 use Rattle.entryfile.specs.Heads.{prices_view}
 use Rattle.entryfile.proofs.Checks.{exit}
 use Rattle.entryfile.proofs.Sequence.{price_more, price_stop, ahead_none}
@@ -11,8 +10,8 @@ use Rattle.entryfile.proofs.head.prices_at.Goals as goal
 pub returns-in_err-price : goal.returns-in_err-price
 returns-in_err-price c =
     record {
-      is = ap (prices_view c.args.count) (exit _ c.from-residual.ensures.1) ∙ price_stop (take c.loop-i.i c.loop-i.prices) (c.args.count - c.loop-i.i) c.args.file.now c.loop-i.next (omega arith) c.in_err-price.ensures.is ∙ sym c.loop-i.invariant.0;
-      size = IfOk-from_err _ _ c.from-residual.ensures.0;
+      is = ap (prices_view c.args.count) (exit _ c.from_residual.ensures.1) ∙ price_stop (take c.loop-i.i c.loop-i.prices) (c.args.count - c.loop-i.i) c.args.file.now c.loop-i.next (omega arith) c.in_err-price.ensures.is ∙ sym c.loop-i.invariant.0;
+      size = IfOk-from_err _ _ c.from_residual.ensures.0;
     }
 
 pub loop-i-preserved : goal.loop-i-preserved

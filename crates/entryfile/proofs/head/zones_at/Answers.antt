@@ -14,15 +14,15 @@ prices_at-requires c = leb-true _ _ (and_parts _ _ (check_passed _ _ _ _ c.in_ok
 pub returns-in_err-prices : goal.returns-in_err-prices
 returns-in_err-prices c =
     record {
-      is = ap zones_view (exit _ c.from-residual-in_err-prices.ensures.1) ∙ items_stop prices_form shares_form c.args.file.now (λ n. prices_then n shares_form c.args.file.now) (within 1 10) c.args.at c.in_ok-zones.ensures.is c.in_err-prices.ensures.is;
-      size = IfOk-from_err _ _ c.from-residual-in_err-prices.ensures.0;
+      is = ap zones_view (exit _ c.from_residual-in_err-prices.ensures.1) ∙ items_stop prices_form shares_form c.args.file.now (λ n. prices_then n shares_form c.args.file.now) (within 1 10) c.args.at c.in_ok-zones.ensures.is c.in_err-prices.ensures.is;
+      size = IfOk-from_err _ _ c.from_residual-in_err-prices.ensures.0;
     }
 
 pub returns-in_err-shares : goal.returns-in_err-shares
 returns-in_err-shares c =
     record {
-      is = ap zones_view (exit _ c.from-residual-in_err-shares.ensures.1) ∙ rest_stop prices_form shares_form c.args.file.now (λ n. prices_then n shares_form c.args.file.now) (within 1 10) c.args.at c.in_ok-zones.ensures.is c.in_ok-prices.ensures.is c.in_err-shares.ensures;
-      size = IfOk-from_err _ _ c.from-residual-in_err-shares.ensures.0;
+      is = ap zones_view (exit _ c.from_residual-in_err-shares.ensures.1) ∙ rest_stop prices_form shares_form c.args.file.now (λ n. prices_then n shares_form c.args.file.now) (within 1 10) c.args.at c.in_ok-zones.ensures.is c.in_ok-prices.ensures.is c.in_err-shares.ensures;
+      size = IfOk-from_err _ _ c.from_residual-in_err-shares.ensures.0;
     }
 
 pub returns : goal.returns

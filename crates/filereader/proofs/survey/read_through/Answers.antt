@@ -6,7 +6,7 @@ use Rattle.filereader.proofs.survey.read_through.Goals as goal
 pub loop-turn-preserved : goal.loop-turn-preserved
 loop-turn-preserved c =
     let size = length c.args.file.now in
-    let turn = c.loop-turn.-turn in
+    let turn = c.loop-turn._turn in
     let here : 0 < size - turn = omega arith in
     let told = c.in-Ok.ensures in
     let k : size - turn - 1 ≡ size - (turn + 1) = omega arith in
@@ -14,7 +14,7 @@ loop-turn-preserved c =
 
 pub returns-in-None : goal.returns-in-None
 returns-in-None c =
-    let turns = length c.args.file.now - c.loop-turn.-turn in
+    let turns = length c.args.file.now - c.loop-turn._turn in
     let here : 0 < turns = omega arith in
     let start = at_start c.args.file.now c.args.families.now c.args.head c.new-reader.result c.new-reader.ensures in
     let end = ends turns c.loop-turn.reader c.next_entry.new.self c.in-Ok.next here c.in-None.is c.in-Ok.ensures.is in
@@ -26,7 +26,7 @@ returns-in-None c =
 
 pub returns-in-Err : goal.returns-in-Err
 returns-in-Err c =
-    let turns = length c.args.file.now - c.loop-turn.-turn in
+    let turns = length c.args.file.now - c.loop-turn._turn in
     let here : 0 < turns = omega arith in
     let start = at_start c.args.file.now c.args.families.now c.args.head c.new-reader.result c.new-reader.ensures in
     let end = fails turns c.loop-turn.reader c.next_entry.new.self c.in-Err.fault here c.in-Err.ensures.is in
@@ -38,7 +38,7 @@ returns-in-Err c =
 
 pub returns : goal.returns
 returns c =
-    let turns = length c.args.file.now - c.loop-turn.-turn in
+    let turns = length c.args.file.now - c.loop-turn._turn in
     let start = at_start c.args.file.now c.args.families.now c.args.head c.new-reader.result c.new-reader.ensures in
     let end = no_turns turns c.loop-turn.reader (omega arith) in
     record {
