@@ -1,12 +1,11 @@
 -- How a file reads from its first entry to its end: how many entries are read whole, and the fault that ends the reading.
-use Rattle.std.specs.Prelude.{◌≡◌, ℕ, ◌+◌, ◌≤◌, min, List, ◌++◌, length, drop, None}
+use Rattle.std.specs.Prelude.{◌≡◌, ℕ, ◌+◌, min, List, length, None}
 use Rattle.std.specs.Option.{option_map}
-use Rattle.market.specs.Openings.{Terms}
 use Rattle.market.specs.Opened.{terms_of}
 use Rattle.market.specs.declared.family.Family.{Family}
 use Rattle.entryfile.specs.declared.head.Head.{Head}
 use Rattle.filereader.specs.declared.survey.Survey.{Survey}
-use Rattle.entryfile.specs.Files.{Listing, listing, entries_from, head_bytes, items_bytes, file_bytes, zones_of}
+use Rattle.entryfile.specs.Files.{Listing, listing, entries_from, head_bytes, file_bytes, zones_of}
 use Rattle.entryfile.specs.Items.{Item}
 use Rattle.entryfile.specs.Laws.{Stands, AllGood}
 use Rattle.entryfile.specs.Steps.{fault_of}

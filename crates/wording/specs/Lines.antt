@@ -1,5 +1,5 @@
 -- The lines of a listing.
-use Rattle.std.specs.Prelude.{ℕ, cond, List, [], ◌∷◌, ◌++◌, length, codes, decimal, ◌==◌}
+use Rattle.std.specs.Prelude.{ℕ, cond, List, ◌++◌, codes, decimal, ◌==◌}
 use Rattle.market.specs.Kinds.{kind_number, mark_number}
 use Rattle.market.specs.Refusals.{refusal, layer_number}
 use Rattle.market.specs.declared.kind.Kind.{Kind}

@@ -13,7 +13,7 @@ pub returns-in-BuyOut : goal.returns-in-BuyOut
 returns-in-BuyOut c = IfOk-weaker c.quantity_text.result _ _ (λ s h. h ∙ sym (ap fields_text c.in-BuyOut.is)) c.quantity_text.ensures
 
 pub returns-in-Reduction : goal.returns-in-Reduction
-returns-in-Reduction c = IfOk-weaker c.quantity-text_in-Reduction.result _ _ (λ s h. h ∙ sym (ap fields_text c.in-Reduction.is)) c.quantity-text_in-Reduction.ensures
+returns-in-Reduction c = IfOk-weaker c.quantity_text-in-Reduction.result _ _ (λ s h. h ∙ sym (ap fields_text c.in-Reduction.is)) c.quantity_text-in-Reduction.ensures
 
 pub returns-in-Standby : goal.returns-in-Standby
 returns-in-Standby c = IfOk-weaker c.standby_text.result _ _ (λ s h. h ∙ sym (ap fields_text c.in-Standby.is)) c.standby_text.ensures

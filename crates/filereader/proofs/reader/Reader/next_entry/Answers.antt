@@ -7,7 +7,7 @@ use Rattle.filereader.proofs.reader.Reader.next_entry.Goals as goal
 pub invariant_of-self : goal.invariant_of-self
 invariant_of-self c =
     let h = c.in-Ok.ensures.handed c.args.self.now.within in
-    (h.bytes.within, (omega (arith, h.onward, c.args.self.now.few), tt))
+    record { within = h.bytes.within; few = omega (arith, h.onward, c.args.self.now.few) }
 
 pub returns-in-Ok : goal.returns-in-Ok
 returns-in-Ok c =
