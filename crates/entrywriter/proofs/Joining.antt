@@ -57,12 +57,12 @@ module _ (turn : Turn) (l : Lead) (lead : lead_numbers l ≡ lead_of turn.sender
   lead_small u = subst (AllBelowBase (2 ^ 32)) taken u
 
   module _ (figures t : List ℕ) (fs : figures ≡ figures_in turn.entry) (ts : t ≡ reference_of turn.entry) where
-    pub item-bytes : (numbers_bytes (take (l.count - 0) l.numbers) ++ numbers_bytes figures) ++ reference_bytes t ≡ item_bytes (item_of turn)
-    item-bytes =
+    pub item_bytes_by_parts : (numbers_bytes (take (l.count - 0) l.numbers) ++ numbers_bytes figures) ++ reference_bytes t ≡ item_bytes (item_of turn)
+    item_bytes_by_parts =
         ap (λ ns. (numbers_bytes ns ++ numbers_bytes figures) ++ reference_bytes t) taken
         ∙ ap (λ ns. (numbers_bytes (lead_of turn.sender turn.entry) ++ numbers_bytes ns) ++ reference_bytes t) fs
         ∙ ap (λ r. (numbers_bytes (lead_of turn.sender turn.entry) ++ numbers_bytes (figures_in turn.entry)) ++ reference_bytes r) ts
         ∙ sym (ap (λ bs. bs ++ reference_bytes (reference_of turn.entry)) (bytes_in_parts turn.sender turn.entry))
 
-    pub item-size : length (numbers_bytes (take (l.count - 0) l.numbers)) + length (numbers_bytes figures) + (length (encode (length t)) + length t) ≡ length (item_bytes (item_of turn))
-    item-size = sym (ap length (sym item-bytes) ∙ simp length-append)
+    pub item_size : length (numbers_bytes (take (l.count - 0) l.numbers)) + length (numbers_bytes figures) + (length (encode (length t)) + length t) ≡ length (item_bytes (item_of turn))
+    item_size = sym (ap length (sym item_bytes_by_parts) ∙ simp length-append)

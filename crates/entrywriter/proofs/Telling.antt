@@ -82,11 +82,11 @@ module _ (zones : ℕ) (families : List Family) (turn : Turn) where
       ap (λ x. (Err x, was)) g ∙ sym (ap (λ x. writing was bytes (refusal_of x (every printable (reference_of turn.entry)) (leb (length bytes) (length was)))) (out_of_range r e h))
 
   module _ (fit : accepts (entry_form zones families) (numbers_of turn.sender turn.entry) ≡ true) (few : length (reference_of turn.entry) ≤ 32) where
-    pub in-range : item_in_range zones families (item_of turn) ≡ true
-    in-range = and_from _ _ fit (short (reference_of turn.entry) few)
+    pub item_is_in_range : item_in_range zones families (item_of turn) ≡ true
+    item_is_in_range = and_from _ _ fit (short (reference_of turn.entry) few)
 
     -- an entry that passes every test is read back
-    pub reads-back : AllBelowBase (2 ^ 32) (lead_of turn.sender turn.entry) → every printable (reference_of turn.entry) ≡ true → {was : List ℕ} {n : ℕ} {is : List ℕ} → Wrote was 0 (item_bytes (item_of turn)) n is → ReadsBack zones families (item_of turn) (Ok n)
-    reads-back u p {n = n} w file at post e =
+    pub reads_back : AllBelowBase (2 ^ 32) (lead_of turn.sender turn.entry) → every printable (reference_of turn.entry) ≡ true → {was : List ℕ} {n : ℕ} {is : List ℕ} → Wrote was 0 (item_bytes (item_of turn)) n is → ReadsBack zones families (item_of turn) (Ok n)
+    reads_back u p {n = n} w file at post e =
         let good : Good zones families (item_of turn) = record { written = record { fits = fit; small = numbers_small zones families turn.sender turn.entry fit u }; reference = and_from _ _ (short (reference_of turn.entry) few) p } in
         entry_reads zones families file at (item_of turn) post good e ∙ ap (λ k. Ok (item_of turn, at + k)) (sym (w.ends ∙ zero-add _))

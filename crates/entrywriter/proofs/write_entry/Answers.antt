@@ -7,7 +7,7 @@ use Rattle.entryfile.specs.Forms.{accepts}
 use Rattle.entryfile.specs.Items.{printable, item_bytes}
 use Rattle.entryfile.specs.Layout.{entry_form}
 use Rattle.entryfile.specs.Views.{numbers_of, reference_of, item_of}
-use Rattle.entrywriter.proofs.Telling.{wrote, at_zones, no_range, in_range, reads-back}
+use Rattle.entrywriter.proofs.Telling.{wrote, at_zones, no_range, item_is_in_range, reads_back}
 use Rattle.entrywriter.proofs.write_entry.Goals as goal
 
 pub returns-then-not-fields_in_range : goal.returns-then-not-fields_in_range
@@ -32,6 +32,6 @@ returns c =
     let text : every printable (reference_of turn.entry) ≡ true = sym (c.if-not-is_printable.ensures ∙ ap (every printable) c.reference-reference.ensures) in
     let room = le-leb (length (item_bytes (item_of turn))) (length was) (omega (arith, c.if-buf-entry_size.false, c.entry_size.ensures.is)) in
     record {
-      is = wrote was (item_bytes (item_of turn)) _ _ _ c.put_entry.ensures (in_range zones families turn fit few) text room;
-      rereads = reads-back zones families turn fit few c.entry_size.ensures.small text c.put_entry.ensures;
+      is = wrote was (item_bytes (item_of turn)) _ _ _ c.put_entry.ensures (item_is_in_range zones families turn fit few) text room;
+      rereads = reads_back zones families turn fit few c.entry_size.ensures.small text c.put_entry.ensures;
     }

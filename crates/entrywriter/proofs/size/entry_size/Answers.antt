@@ -1,6 +1,6 @@
 use Rattle.std.proofs.Common.{◌-◌, ◌≤◌, length, ap, arith, length-take}
 use Rattle.number.proofs.Codec.{encode_few}
-use Rattle.entrywriter.proofs.Joining.{lead_small, item-size}
+use Rattle.entrywriter.proofs.Joining.{lead_small, item_size}
 use Rattle.entrywriter.proofs.size.entry_size.Goals as goal
 
 -- eight numbers at most take 40 bytes at most, and a reference 37
@@ -21,6 +21,6 @@ overflow_add-result-2 c = omega (arith, few c, c.figures_size.ensures.below)
 pub returns : goal.returns
 returns c =
     record {
-      is = omega (arith, c.numbers_size.ensures.is, c.figures_size.ensures.is, c.number_size.ensures, item-size c.args.turn c.lead_of-lead.result c.lead_of-lead.ensures.is _ _ c.figures_of.ensures.is c.reference-reference.ensures);
+      is = omega (arith, c.numbers_size.ensures.is, c.figures_size.ensures.is, c.number_size.ensures, item_size c.args.turn c.lead_of-lead.result c.lead_of-lead.ensures.is _ _ c.figures_of.ensures.is c.reference-reference.ensures);
       small = lead_small c.args.turn c.lead_of-lead.result c.lead_of-lead.ensures.is c.numbers_size.ensures.small;
     }
