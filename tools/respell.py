@@ -1,7 +1,7 @@
 #!/usr/bin/env python3
 """Respells the repository's own definitions and lemmas in the toolchain's style: words in snake case, a dash only
-between the names of two functions. Run once, at the top, after the toolchain's own port script; a second run changes
-nothing. Names of src/, strings, inputs and outputs stay as they are."""
+where it joins two names. Run once, at the top, after the toolchain's own port script; a second run changes nothing.
+Names of src/, strings, inputs and outputs stay as they are."""
 import glob
 import re
 
@@ -302,8 +302,10 @@ zonesOf zones_of
 zonesView zones_view
 """.strip().splitlines())
 
-# names that would fall together with another: the definition of terms in their ranges, which a ghost field shares its
-# spelling with, and the lemma on the bytes of a head, which the definition `head_bytes` does
+# Names that would fall together with another: the definition of terms in their ranges, which a ghost field shares its
+# spelling with; the lemma on the bytes of a head, which the definition `head_bytes` does; and in the table above
+# `numbers-in` and `terms-read`. Lemmas inside nested modules are not in the table; two of `entrywriter` that would fall
+# together with definitions (`item-bytes`, `in-range`) were respelled by hand.
 TERMS_IN_RANGE = re.compile(r"(?<![\w.'-])in_range(?![\w'(:-])")
 NAME = re.compile(r"[A-Za-z_][\w'-]*")
 
