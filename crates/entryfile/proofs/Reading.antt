@@ -1,11 +1,11 @@
 -- Reading undoes writing.
 use Rattle.std.proofs.Common.{◌≡◌, ℕ, zero, suc, ◌+◌, ◌-◌, ◌^◌, ◌<◌, ◌≤◌, Bool, true, leb, List, [], ◌∷◌, ◌++◌, length, drop, None, Ok, sym, refl, ap, ◌∙◌, append_assoc, add-zero, arith, length-append, length-drop, drop-drop}
 use lib.Seq.{drop-append_seam, take-append_seam}
-use Rattle.std.specs.List.{between}
+use Rattle.std.specs.List.{between, list_all}
 use Rattle.std.proofs.lemmas.Bool.{false≢true, and_parts, cond-true, cond-false, le-ltb, le-leb, lt-leb, leb-true}
 use Rattle.number.specs.Numbers.{encode}
 use Rattle.number.proofs.Codec.{number_reads, encode_some}
-use Rattle.market.specs.Ranges.{within, every}
+use Rattle.market.specs.Ranges.{within}
 use Rattle.market.specs.declared.family.Family.{Family}
 use Rattle.entryfile.specs.declared.fault.EntryFault.{EntryFault}
 use Rattle.entryfile.specs.declared.fault.EntryFault.TheVariants.{OutOfRange}
@@ -37,7 +37,7 @@ form_reads (field fault test rest) (n ∷ ns) file at post w e =
     ∙ ap (more n) (form_reads (rest n) ns file (at + length bs) post (record { fits = fits; small = w.small.1 }) (drop_past file at bs (numbers_bytes ns ++ post) e'))
     ∙ ap (λ q. Ok (n ∷ ns, q)) (past at bs (numbers_bytes ns))
 
-text_reads : (file : List ℕ) (at : ℕ) (t post : List ℕ) → every printable t ≡ true → drop at file ≡ t ++ post → text_at (length t) file at ≡ Ok (t, at + length t)
+text_reads : (file : List ℕ) (at : ℕ) (t post : List ℕ) → list_all printable t ≡ true → drop at file ≡ t ++ post → text_at (length t) file at ≡ Ok (t, at + length t)
 unfolding text_at
 text_reads file at t post p e =
     let n = length t in
@@ -50,7 +50,7 @@ pub reference_reads : (file : List ℕ) (at : ℕ) (t post : List ℕ) → refer
 reference_reads file at t post f e =
     let bs = encode (length t) in
     let e' = e ∙ append_assoc bs t post in
-    let (short, p) = and_parts (within 0 32 (length t)) (every printable t) f in
+    let (short, p) = and_parts (within 0 32 (length t)) (list_all printable t) f in
     let small = leb-true (length t) 32 (and_parts (leb 0 (length t)) (leb (length t) 32) short).1 in
     ap (after_length file) (checked_reads OutOfRange (within 0 32) file at (length t) (t ++ post) short (omega arith) e')
     ∙ text_reads file (at + length bs) t post p (drop_past file at bs (t ++ post) e')

@@ -1,7 +1,7 @@
 -- Writing undoes reading.
 use Rattle.std.proofs.Common.{◌≡◌, ℕ, zero, suc, ◌+◌, ◌-◌, ◌^◌, ◌<◌, ◌≤◌, Bool, true, ltb, leb, List, ◌∷◌, ◌++◌, length, drop, IfOk, Some, None, Ok, Err, Option, Result, sym, refl, ap, ◌∙◌, subst, arith, take-append-drop}
 use Rattle.std.specs.Int.Digits.{AllBelowBase}
-use Rattle.std.specs.List.{between}
+use Rattle.std.specs.List.{between, list_all}
 use Rattle.std.proofs.lemmas.List.Edits.{length-between}
 use Rattle.std.proofs.lemmas.List.{drop_all}
 use Rattle.std.proofs.lemmas.Result.{IfOk-at_ok, IfOk-weaker}
@@ -9,7 +9,7 @@ use Rattle.std.proofs.lemmas.Bool.{cond_both, and_from, ltb-false, leb-true}
 use Rattle.number.specs.Numbers.{encode, number_at}
 use Rattle.number.specs.declared.NumberFault.{NumberFault}
 use Rattle.number.proofs.Codec.{number_same}
-use Rattle.market.specs.Ranges.{within, every}
+use Rattle.market.specs.Ranges.{within}
 use Rattle.market.specs.declared.family.Family.{Family}
 use Rattle.entryfile.specs.declared.fault.EntryFault.{EntryFault}
 use Rattle.entryfile.specs.declared.fault.EntryFault.TheVariants.{OutOfRange}
@@ -58,7 +58,7 @@ module _ (file : List ℕ) (under : AllBelowBase 256 file) where
 
   -- so many printable bytes
   abbrev Text : ℕ → ℕ → List ℕ × ℕ → Type 0
-  Text n at q = (every printable q.0 ≡ true) × (length q.0 ≡ n) × Stands file at q.0 q.1
+  Text n at q = (list_all printable q.0 ≡ true) × (length q.0 ≡ n) × Stands file at q.0 q.1
 
   text_has : (n at : ℕ) → at ≤ length file → IfOk (text_at n file at) (Text n at)
   unfolding text_at
@@ -68,7 +68,7 @@ module _ (file : List ℕ) (under : AllBelowBase 256 file) where
       let room = ltb-false (length file - at) n e in
       let end : at + n ≤ length file = omega arith in
       let k : at + n - at ≡ n = omega arith in
-      cond_both (every printable (between at (at + n) file)) _ _ (λ r. IfOk {E = EntryFault} r (Text n at))
+      cond_both (list_all printable (between at (at + n) file)) _ _ (λ r. IfOk {E = EntryFault} r (Text n at))
       (λ p. (p, length-between file at (at + n) end ∙ k, record { is = refl; on = omega arith; within = end }))
       (λ _. tt))
 

@@ -1,9 +1,9 @@
 -- Entries as they stand in a file: their numbers and their reference.
 use Rattle.std.specs.Prelude.{ℕ, ◌+◌, ◌-◌, Bool, cond, ◌&&◌, List, ◌++◌, length, Ok, Err, nat_lt}
-use Rattle.std.specs.List.{flat_map, between}
+use Rattle.std.specs.List.{flat_map, between, list_all}
 use Rattle.number.specs.Numbers.{encode}
 use Rattle.number.specs.declared.NumberCause.TheVariants.{Ends}
-use Rattle.market.specs.Ranges.{within, every}
+use Rattle.market.specs.Ranges.{within}
 use Rattle.market.specs.declared.family.Family.{Family}
 use Rattle.entryfile.specs.declared.fault.EntryFault.TheVariants.{Number, OutOfRange, BadText}
 use Rattle.entryfile.specs.Forms.{Form, Got, checked_at, ahead, form_at}
@@ -22,7 +22,7 @@ abbrev pub printable : ℕ → Bool
 printable b = within 32 126 b
 
 abbrev pub whole_text : List ℕ → ℕ → ℕ → Got (List ℕ)
-whole_text t at end = cond (every printable t) (Ok (t, end)) (Err (BadText at))
+whole_text t at end = cond (list_all printable t) (Ok (t, end)) (Err (BadText at))
 
 -- so many bytes of text; a text that is cut short is cause 1, even with a bad byte in it
 unfoldable pub text_at : ℕ → List ℕ → ℕ → Got (List ℕ)
@@ -38,7 +38,7 @@ reference_at file at = after_length file (checked_at OutOfRange (within 0 32) fi
 
 -- a reference that fits in a file
 abbrev pub reference_fits : List ℕ → Bool
-reference_fits t = within 0 32 (length t) && every printable t
+reference_fits t = within 0 32 (length t) && list_all printable t
 
 abbrev pub called : List ℕ → Got (List ℕ) → Got Item
 called ns (Ok p) = Ok (item ns p.0, p.1)

@@ -1,8 +1,8 @@
 // Reading one field of a file: a number with its range, a kind, a family, figures, a reference.
 ghost use Rattle.std.specs.Prelude.{◌≡◌, ℕ, ◌+◌, ◌-◌, ◌<◌, ◌≤◌, true, length, IfOk};
 ghost use Rattle.std.specs.Int.Digits.{AllBelowBase};
-ghost use Rattle.std.specs.List.{between};
-ghost use Rattle.market.specs.Ranges.{within, every, largest};
+ghost use Rattle.std.specs.List.{between, list_all};
+ghost use Rattle.market.specs.Ranges.{within, largest};
 ghost use Rattle.market.specs.Kinds.{kind_number, capability_fits};
 ghost use Rattle.market.specs.Families.{is_family, figure_count};
 ghost use Rattle.entryfile.specs.declared.fault.EntryFault.TheVariants.{Unknown, OutOfRange};
@@ -141,7 +141,7 @@ fn is_printable_byte(byte: u8) -> bool
 
 // Whether every byte is printable.
 pub fn is_printable(text: &[u8]) -> bool
-    ensures { result ≡ every printable text.now }
+    ensures { result ≡ list_all printable text.now }
 {
     for byte in text {
         if !is_printable_byte(*byte) {

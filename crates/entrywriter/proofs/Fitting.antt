@@ -1,8 +1,9 @@
 -- Which figures fit a sheet.
 use Rattle.std.proofs.Common.{◌≡◌, ℕ, zero, suc, true, false, ◌&&◌, eqb, List, [], ◌∷◌, length, Ok, Err, Result, sym, refl, ap, ◌∙◌, ⊎_elim, arith}
+use Rattle.std.specs.List.{list_all}
 use Rattle.std.specs.Int.Digits.{AllBelowBase}
 use Rattle.std.proofs.lemmas.Bool.{cases_Bool, cases_eq, eq-eqb, ne_eqb, and_right}
-use Rattle.market.specs.Ranges.{within, every, limit}
+use Rattle.market.specs.Ranges.{within, limit}
 use Rattle.entryfile.specs.declared.fault.EntryFault.{EntryFault}
 use Rattle.entryfile.specs.Forms.{form_at, end_of, accepts}
 use Rattle.entryfile.specs.Layout.{figures_form}
@@ -35,10 +36,10 @@ listed_other zero (x ∷ ns) n = refl
 listed_other (suc count) [] n = refl
 listed_other (suc count) (x ∷ ns) n = sym (and_right (within 0 limit x) _ (sym (listed_other count ns (λ e. n (ap suc e)))))
 
-as_many : (ns : List ℕ) → every (within 0 limit) ns ≡ accepts (figures_form (length ns)) ns
+as_many : (ns : List ℕ) → list_all (within 0 limit) ns ≡ accepts (figures_form (length ns)) ns
 as_many [] = refl
 as_many (x ∷ ns) = ap (λ b. within 0 limit x && b) (as_many ns)
 
 -- as many numbers as there are figures
-pub listed_every : (count : ℕ) (ns : List ℕ) → length ns ≡ count → every (within 0 limit) ns ≡ accepts (figures_form count) ns
+pub listed_every : (count : ℕ) (ns : List ℕ) → length ns ≡ count → list_all (within 0 limit) ns ≡ accepts (figures_form count) ns
 listed_every count ns e = as_many ns ∙ ap (λ k. accepts (figures_form k) ns) e

@@ -1,11 +1,12 @@
 -- What a writer answers, by its tests.
 use Rattle.std.proofs.Common.{◌≡◌, ℕ, ◌+◌, ◌^◌, ◌<◌, ◌≤◌, Bool, true, false, ◌&&◌, leb, ◌⊎◌, List, ◌++◌, length, drop, Ok, Err, sym, ap, ◌∙◌, ⊎_elim, zero-add, arith}
+use Rattle.std.specs.List.{list_all}
 use lib.Seq.{sets-eq}
 use Rattle.std.specs.Int.Digits.{AllBelowBase}
 use Rattle.std.proofs.ByRecursion.{All-append}
 use Rattle.std.proofs.lemmas.Bool.{and_parts, and_from, and_left, and_right, le-leb, lt-leb}
 use Rattle.number.specs.Writes.{Wrote}
-use Rattle.market.specs.Ranges.{within, every, largest}
+use Rattle.market.specs.Ranges.{within, largest}
 use Rattle.market.specs.Families.{is_family, figure_count}
 use Rattle.market.specs.Refusals.{refused_call}
 use Rattle.market.specs.declared.family.Family.{Family}
@@ -79,14 +80,14 @@ module _ (zones : ℕ) (families : List Family) (turn : Turn) where
   pub no_range : (was : List ℕ) {f : Fault} (r : Bool) → f ≡ refused_call OutOfRange → r ≡ accepts (entry_form zones families) (numbers_of turn.sender turn.entry) → (r ≡ false) ⊎ (32 < length (reference_of turn.entry)) → (Err f, was) ≡ entry_writing zones families (item_of turn) was
   no_range was r g e h =
       let bytes = item_bytes (item_of turn) in
-      ap (λ x. (Err x, was)) g ∙ sym (ap (λ x. writing was bytes (refusal_of x (every printable (reference_of turn.entry)) (leb (length bytes) (length was)))) (out_of_range r e h))
+      ap (λ x. (Err x, was)) g ∙ sym (ap (λ x. writing was bytes (refusal_of x (list_all printable (reference_of turn.entry)) (leb (length bytes) (length was)))) (out_of_range r e h))
 
   module _ (fit : accepts (entry_form zones families) (numbers_of turn.sender turn.entry) ≡ true) (few : length (reference_of turn.entry) ≤ 32) where
     pub item_is_in_range : item_in_range zones families (item_of turn) ≡ true
     item_is_in_range = and_from _ _ fit (short (reference_of turn.entry) few)
 
     -- an entry that passes every test is read back
-    pub reads_back : AllBelowBase (2 ^ 32) (lead_of turn.sender turn.entry) → every printable (reference_of turn.entry) ≡ true → {was : List ℕ} {n : ℕ} {is : List ℕ} → Wrote was 0 (item_bytes (item_of turn)) n is → ReadsBack zones families (item_of turn) (Ok n)
+    pub reads_back : AllBelowBase (2 ^ 32) (lead_of turn.sender turn.entry) → list_all printable (reference_of turn.entry) ≡ true → {was : List ℕ} {n : ℕ} {is : List ℕ} → Wrote was 0 (item_bytes (item_of turn)) n is → ReadsBack zones families (item_of turn) (Ok n)
     reads_back u p {n = n} w file at post e =
         let good : Good zones families (item_of turn) = record { written = record { fits = fit; small = numbers_small zones families turn.sender turn.entry fit u }; reference = and_from _ _ (short (reference_of turn.entry) few) p } in
         entry_reads zones families file at (item_of turn) post good e ∙ ap (λ k. Ok (item_of turn, at + k)) (sym (w.ends ∙ zero-add _))

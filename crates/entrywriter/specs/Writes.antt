@@ -1,6 +1,7 @@
 -- What a writer answers, and what it leaves in the buffer.
 use Rattle.std.specs.Prelude.{◌≡◌, ℕ, ◌+◌, Bool, true, cond, ◌&&◌, List, ◌++◌, length, drop, Some, None, Ok, Err, Option, Result, nat_le}
-use Rattle.market.specs.Ranges.{within, every}
+use Rattle.std.specs.List.{list_all}
+use Rattle.market.specs.Ranges.{within}
 use Rattle.market.specs.Refusals.{refused_call}
 use Rattle.market.specs.declared.family.Family.{Family}
 use Rattle.market.specs.declared.refusal.Cause.{Cause}
@@ -27,7 +28,7 @@ item_in_range zones families i = accepts (entry_form zones families) i.numbers &
 
 -- writing an entry under an opening with so many zones
 abbrev pub entry_writing : ℕ → List Family → Item → List ℕ → Result ℕ Fault × List ℕ
-entry_writing zones families i was = writing was (item_bytes i) (refusal_of (item_in_range zones families i) (every printable i.reference) (nat_le (length (item_bytes i)) (length was)))
+entry_writing zones families i was = writing was (item_bytes i) (refusal_of (item_in_range zones families i) (list_all printable i.reference) (nat_le (length (item_bytes i)) (length was)))
 
 -- writing bytes that are always in range
 abbrev pub plain_writing : List ℕ → List ℕ → Result ℕ Fault × List ℕ

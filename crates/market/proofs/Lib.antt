@@ -1,3 +1,0 @@
-pub mod Everys
-pub mod Kept
-pub mod Searching

@@ -5,8 +5,8 @@ use Rattle.market.specs.declared.kind.Kind.{Kind}
 use Rattle.market.specs.declared.kind.Kind.TheVariants.{VirtualDemandResponse, PhysicalDemandResponse, DispatchableLoad, Generation, Storage, SystemBackedImport, GeneratorBackedImport}
 use Rattle.market.specs.declared.kind.AssessmentFamily.{AssessmentFamily}
 use Rattle.market.specs.declared.kind.AssessmentFamily.TheVariants.{Dispatchable, HourlyDemandResponse, BackedImport}
-use Rattle.market.specs.declared.kind.Mark.{Mark}
-use Rattle.market.specs.declared.kind.Mark.TheVariants.{LateData, FailedImportCall}
+use Rattle.market.specs.declared.mark.Mark.{Mark}
+use Rattle.market.specs.declared.mark.Mark.TheVariants.{LateData, FailedImportCall}
 
 abbrev pub kind_number : Kind → ℕ
 kind_number VirtualDemandResponse = 1

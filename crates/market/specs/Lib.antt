@@ -1,4 +1,5 @@
 pub mod Ranges
+pub mod Numbering
 pub mod Kinds
 pub mod Families
 pub mod Refusals

@@ -1,5 +1,6 @@
 -- What a value of the type Opening says.
-use Rattle.std.specs.Prelude.{◌≡◌, true, false, take, Ok, Err, Result}
+use Rattle.std.specs.Prelude.{◌≡◌, true, false, Ok, Err, Result}
+use Rattle.upto.specs.Listed.{listed}
 use Rattle.market.specs.Openings.{Terms, terms, terms_in_range}
 use Rattle.market.specs.Refusals.{refused_call}
 use Rattle.market.specs.declared.opening.Opening.{Opening}
@@ -7,7 +8,7 @@ use Rattle.market.specs.declared.refusal.Fault.{Fault}
 use Rattle.market.specs.declared.refusal.Cause.TheVariants.{OutOfRange}
 
 abbrev pub terms_of : Opening → Terms
-terms_of o = terms (take o.month_count o.months) o.first_hour o.last_hour (take o.zone_count o.prices) o.buyout_rate o.pass_mark
+terms_of o = terms (listed o.months) o.first_hour o.last_hour (listed o.prices) o.buyout_rate o.pass_mark
 
 -- terms in their ranges make an opening that says them; any others are refused with cause 5
 abbrev pub Made : Terms → Result Opening Fault → Type 0

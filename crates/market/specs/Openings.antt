@@ -1,6 +1,7 @@
 -- What an opening says, and the ranges of its numbers.
 use Rattle.std.specs.Prelude.{ℕ, Bool, ◌&&◌, List, length}
-use Rattle.market.specs.Ranges.{within, every, limit}
+use Rattle.std.specs.List.{list_all}
+use Rattle.market.specs.Ranges.{within, limit}
 use Rattle.market.specs.declared.month.Month.{Month}
 
 pub record Terms : Type 0 where
@@ -20,11 +21,11 @@ month_in_range m = within 1 23 m.days && within 1 100 m.factor
 
 -- 1 to 6 months; a window of hours 1 to 24, the first not after the last
 abbrev pub calendar_fits : List Month → ℕ → ℕ → Bool
-calendar_fits ms first last = within 1 6 (length ms) && (every month_in_range ms && (within 1 24 first && within first 24 last))
+calendar_fits ms first last = within 1 6 (length ms) && (list_all month_in_range ms && (within 1 24 first && within first 24 last))
 
 -- 1 to 10 zones with a price each; a buy-out rate of 0 to 100 percent and a pass mark of 1 to 100 percent
 abbrev pub prices_fit : List ℕ → ℕ → ℕ → Bool
-prices_fit ps rate mark = within 1 10 (length ps) && (every (within 0 limit) ps && (within 0 100 rate && within 1 100 mark))
+prices_fit ps rate mark = within 1 10 (length ps) && (list_all (within 0 limit) ps && (within 0 100 rate && within 1 100 mark))
 
 abbrev pub terms_in_range : Terms → Bool
 terms_in_range t = calendar_fits t.months t.first_hour t.last_hour && prices_fit t.prices t.buyout_rate t.pass_mark

@@ -1,5 +1,7 @@
 -- The refusal table: each cause with its number and its layer.
 use Rattle.std.specs.Prelude.{ℕ}
+use Rattle.number.specs.declared.NumberCause.{NumberCause}
+use Rattle.number.specs.declared.NumberCause.TheVariants as numbers
 use Rattle.market.specs.declared.refusal.Cause.{Cause}
 use Rattle.market.specs.declared.refusal.Cause.TheVariants.{Ends, Padded, Large, Unknown, OutOfRange, BadText, NoRoom}
 use Rattle.market.specs.declared.refusal.Layer.{Layer}
@@ -15,6 +17,12 @@ refusal Unknown = (4, Entries)
 refusal OutOfRange = (5, Entries)
 refusal BadText = (6, Entries)
 refusal NoRoom = (7, Entries)
+
+-- the cause of a fault of the number layer
+abbrev pub number_cause : NumberCause → Cause
+number_cause numbers.Ends = Ends
+number_cause numbers.Padded = Padded
+number_cause numbers.Large = Large
 
 abbrev pub layer_number : Layer → ℕ
 layer_number Numbers = 1

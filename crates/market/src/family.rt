@@ -1,6 +1,6 @@
 // Families of assessment rules, as far as a file's format needs them.
 ghost use Rattle.std.specs.Prelude.{◌≡◌};
-ghost use Rattle.market.specs.Families.{figures_for};
+ghost use Rattle.market.specs.Families.{figures_for, sheet_figures};
 
 // A family of the book: its number, and how many figures an hour record of its sheets has.
 #[derive(Clone, Copy, Debug, PartialEq)]
@@ -9,14 +9,37 @@ pub struct Family {
     pub figures_per_hour: u8,
 }
 
-// How many figures a sheet of a family has, 24 hour records; none where no family has the number.
+// The families that a book has today.
+pub const FAMILIES: [Family; 3] = [
+    Family {
+        number: 1,
+        figures_per_hour: 3,
+    },
+    Family {
+        number: 2,
+        figures_per_hour: 3,
+    },
+    Family {
+        number: 3,
+        figures_per_hour: 5,
+    },
+];
+
+impl Family {
+    // How many figures a sheet of the family has: 24 hour records.
+    pub fn figures_in_sheet(&self) -> usize
+        ensures { result ≡ sheet_figures self.now }
+    {
+        24 * self.figures_per_hour as usize
+    }
+}
+
+// How many figures a sheet of a family has; none where no family has the number.
 pub fn figures_in_sheet(families: &[Family], number: u32) -> Option<usize>
     ensures { result ≡ figures_for families.now number }
 {
-    for family in families {
-        if family.number == number {
-            return Some(24 * family.figures_per_hour as usize);
-        }
-    }
-    None
+    families
+        .iter()
+        .find(|family| family.number == number)
+        .map(|family| family.figures_in_sheet())
 }

@@ -1,11 +1,15 @@
-// The kinds of resource that hold awards, and the sorts of mark.
-ghost use Rattle.std.specs.Prelude.{◌≡◌, false, MatchOption};
-ghost use Rattle.market.specs.Ranges.{within};
-ghost use Rattle.market.specs.Kinds.{kind_number, kind_family, family_number, mark_number, capability_fits};
+// The kinds of resource that hold awards, and the families by which they are assessed.
+ghost use Rattle.std.specs.Prelude.{◌≡◌};
+ghost use Rattle.market.specs.Numbering.{NamedBy};
+ghost use Rattle.market.specs.Kinds.{kind_number, kind_family, family_number, capability_fits};
 
+use crate::in_range;
+use crate::numbered::{Numbered, UnknownNumber};
+
+// A kind of resource; a file names it by its number, 1 to 7 in this order.
 #[derive(Clone, Copy, Debug, PartialEq)]
 pub enum Kind {
-    VirtualDemandResponse,
+    VirtualDemandResponse = 1,
     PhysicalDemandResponse,
     DispatchableLoad,
     Generation,
@@ -14,38 +18,42 @@ pub enum Kind {
     GeneratorBackedImport,
 }
 
-impl Kind {
-    // The kind's number, 1 to 7.
-    pub fn number(self) -> u32
-        ensures { result ≡ kind_number self }
-    {
-        match self {
-            Kind::VirtualDemandResponse => 1,
-            Kind::PhysicalDemandResponse => 2,
-            Kind::DispatchableLoad => 3,
-            Kind::Generation => 4,
-            Kind::Storage => 5,
-            Kind::SystemBackedImport => 6,
-            Kind::GeneratorBackedImport => 7,
-        }
-    }
+impl From<Kind> for u32 {
+    ghost from_gives = { λ kind n. n ≡ kind_number kind };
 
-    // The kind with a number; none outside 1 to 7.
-    pub fn from_number(n: u32) -> Option<Kind>
-        ensures { MatchOption result (within 1 7 n ≡ false) (λ k. kind_number k ≡ n) }
-    {
+    fn from(kind: Kind) -> u32 {
+        kind as u32
+    }
+}
+
+impl TryFrom<u32> for Kind {
+    type Error = UnknownNumber;
+
+    ghost try_from_gives = { NamedBy kind_number 7 };
+
+    fn try_from(n: u32) -> Result<Kind, UnknownNumber> {
         match n {
-            1 => Some(Kind::VirtualDemandResponse),
-            2 => Some(Kind::PhysicalDemandResponse),
-            3 => Some(Kind::DispatchableLoad),
-            4 => Some(Kind::Generation),
-            5 => Some(Kind::Storage),
-            6 => Some(Kind::SystemBackedImport),
-            7 => Some(Kind::GeneratorBackedImport),
-            _ => None,
+            1 => Ok(Kind::VirtualDemandResponse),
+            2 => Ok(Kind::PhysicalDemandResponse),
+            3 => Ok(Kind::DispatchableLoad),
+            4 => Ok(Kind::Generation),
+            5 => Ok(Kind::Storage),
+            6 => Ok(Kind::SystemBackedImport),
+            7 => Ok(Kind::GeneratorBackedImport),
+            _ => Err(UnknownNumber(n)),
         }
     }
+}
 
+impl Numbered for Kind {
+    ghost number_of = { kind_number };
+
+    ghost most = { 7 };
+
+    ghost named = { λ n r h. h };
+}
+
+impl Kind {
     // The family by which the kind is assessed.
     pub fn family(self) -> AssessmentFamily
         ensures { result ≡ kind_family self }
@@ -64,74 +72,50 @@ impl Kind {
         ensures { result ≡ capability_fits (kind_number self) capability }
     {
         match self {
-            Kind::VirtualDemandResponse => 1 <= capability && capability <= 100_000,
+            Kind::VirtualDemandResponse => in_range(capability, 1, 100_000),
             _ => capability == 0,
         }
     }
 }
 
-// The families of the market's assessment rules.
+// The families of the market's assessment rules, by their numbers, 1 to 3 in this order.
 #[derive(Clone, Copy, Debug, PartialEq)]
 pub enum AssessmentFamily {
     // dispatchable loads, generation, storage and system-backed imports
-    Dispatchable,
+    Dispatchable = 1,
     // virtual and physical hourly demand response
     HourlyDemandResponse,
     // generator-backed imports
     BackedImport,
 }
 
-impl AssessmentFamily {
-    // The family's number, 1 to 3.
-    pub fn number(self) -> u32
-        ensures { result ≡ family_number self }
-    {
-        match self {
-            AssessmentFamily::Dispatchable => 1,
-            AssessmentFamily::HourlyDemandResponse => 2,
-            AssessmentFamily::BackedImport => 3,
-        }
-    }
+impl From<AssessmentFamily> for u32 {
+    ghost from_gives = { λ family n. n ≡ family_number family };
 
-    // The family with a number; none outside 1 to 3.
-    pub fn from_number(n: u32) -> Option<AssessmentFamily>
-        ensures { MatchOption result (within 1 3 n ≡ false) (λ f. family_number f ≡ n) }
-    {
+    fn from(family: AssessmentFamily) -> u32 {
+        family as u32
+    }
+}
+
+impl TryFrom<u32> for AssessmentFamily {
+    type Error = UnknownNumber;
+
+    ghost try_from_gives = { NamedBy family_number 3 };
+
+    fn try_from(n: u32) -> Result<AssessmentFamily, UnknownNumber> {
         match n {
-            1 => Some(AssessmentFamily::Dispatchable),
-            2 => Some(AssessmentFamily::HourlyDemandResponse),
-            3 => Some(AssessmentFamily::BackedImport),
-            _ => None,
+            1 => Ok(AssessmentFamily::Dispatchable),
+            2 => Ok(AssessmentFamily::HourlyDemandResponse),
+            3 => Ok(AssessmentFamily::BackedImport),
+            _ => Err(UnknownNumber(n)),
         }
     }
 }
 
-// Why an award is marked: each mark costs the month's payments at the closing.
-#[derive(Clone, Copy, Debug, PartialEq)]
-pub enum Mark {
-    LateData,
-    FailedImportCall,
-}
+impl Numbered for AssessmentFamily {
+    ghost number_of = { family_number };
 
-impl Mark {
-    // The sort's number, 1 or 2.
-    pub fn number(self) -> u32
-        ensures { result ≡ mark_number self }
-    {
-        match self {
-            Mark::LateData => 1,
-            Mark::FailedImportCall => 2,
-        }
-    }
+    ghost most = { 3 };
 
-    // The sort with a number; none but for 1 and 2.
-    pub fn from_number(n: u32) -> Option<Mark>
-        ensures { MatchOption result (within 1 2 n ≡ false) (λ m. mark_number m ≡ n) }
-    {
-        match n {
-            1 => Some(Mark::LateData),
-            2 => Some(Mark::FailedImportCall),
-            _ => None,
-        }
-    }
+    ghost named = { λ n r h. h };
 }

@@ -7,14 +7,18 @@ ghost use Rattle.market.specs.Ranges.{within};
 
 mod family;
 mod kind;
+mod mark;
 mod month;
+mod numbered;
 mod opening;
 mod refusal;
 mod terms;
 
-pub use family::{Family, figures_in_sheet};
-pub use kind::{AssessmentFamily, Kind, Mark};
+pub use family::{FAMILIES, Family, figures_in_sheet};
+pub use kind::{AssessmentFamily, Kind};
+pub use mark::Mark;
 pub use month::Month;
+pub use numbered::{Numbered, UnknownNumber};
 pub use opening::Opening;
 pub use refusal::{Cause, Fault, Layer};
 
@@ -22,5 +26,5 @@ pub use refusal::{Cause, Fault, Layer};
 pub fn in_range(n: u32, low: u32, high: u32) -> bool
     ensures { result ≡ within low high n }
 {
-    low <= n && n <= high
+    (low..=high).contains(&n)
 }

@@ -1,59 +1,65 @@
 // The refusal table and what a refusal says.
 ghost use Rattle.std.specs.Prelude.{◌≡◌};
-ghost use Rattle.market.specs.Refusals.{refusal, layer_number, refused_call};
+ghost use Rattle.market.specs.Refusals.{number_cause, refusal, layer_number, refused_call};
 
-// Why a file or a call is refused.
+use number::NumberCause;
+
+// Why a file or a call is refused; the causes are numbered from 1 on, in this order.
 #[derive(Clone, Copy, Debug, PartialEq)]
 pub enum Cause {
-    // 1: the file ends where a number or a reference wants a byte
-    Ends,
-    // 2: a number has more bytes than it needs
+    // the file ends where a number or a reference wants a byte
+    Ends = 1,
+    // a number has more bytes than it needs
     Padded,
-    // 3: a number is above 4,294,967,295
+    // a number is above 4,294,967,295
     Large,
-    // 4: an unknown version or entry number
+    // an unknown version or entry number
     Unknown,
-    // 5: a field outside its range
+    // a field outside its range
     OutOfRange,
-    // 6: a reference byte outside 32 to 126
+    // a reference byte outside 32 to 126
     BadText,
-    // 7: the writer's buffer is too short
+    // the writer's buffer is too short
     NoRoom,
 }
 
-// Which layer refuses: the numbers of a file, or its entries.
+// Which layer refuses: 1 the numbers of a file, 2 its entries.
 #[derive(Clone, Copy, Debug, PartialEq)]
 pub enum Layer {
-    Numbers,
+    Numbers = 1,
     Entries,
 }
 
-impl Layer {
-    pub fn number(self) -> u32
-        ensures { result ≡ layer_number self }
-    {
-        match self {
-            Layer::Numbers => 1,
-            Layer::Entries => 2,
+impl From<Layer> for u32 {
+    ghost from_gives = { λ layer n. n ≡ layer_number layer };
+
+    fn from(layer: Layer) -> u32 {
+        layer as u32
+    }
+}
+
+impl From<Cause> for u32 {
+    ghost from_gives = { λ cause n. n ≡ (refusal cause).0 };
+
+    fn from(cause: Cause) -> u32 {
+        cause as u32
+    }
+}
+
+impl From<NumberCause> for Cause {
+    ghost from_gives = { λ cause r. r ≡ number_cause cause };
+
+    fn from(cause: NumberCause) -> Cause {
+        match cause {
+            NumberCause::Ends => Cause::Ends,
+            NumberCause::Padded => Cause::Padded,
+            NumberCause::Large => Cause::Large,
         }
     }
 }
 
 impl Cause {
-    pub fn number(self) -> u32
-        ensures { result ≡ (refusal self).0 }
-    {
-        match self {
-            Cause::Ends => 1,
-            Cause::Padded => 2,
-            Cause::Large => 3,
-            Cause::Unknown => 4,
-            Cause::OutOfRange => 5,
-            Cause::BadText => 6,
-            Cause::NoRoom => 7,
-        }
-    }
-
+    // The layer that refuses for this cause.
     pub fn layer(self) -> Layer
         ensures { result ≡ (refusal self).1 }
     {
@@ -74,6 +80,7 @@ pub struct Fault {
 }
 
 impl Fault {
+    // The layer that refuses.
     pub fn layer(self) -> Layer
         ensures { result ≡ (refusal self.cause).1 }
     {

@@ -1,6 +1,7 @@
 // Making an opening, and asking what it says.
-ghost use Rattle.std.specs.Prelude.{◌≡◌, ◌≤◌, length, take};
-ghost use Rattle.market.specs.Ranges.{within, every, limit};
+ghost use Rattle.std.specs.Prelude.{◌≡◌, length};
+ghost use Rattle.std.specs.List.{list_all};
+ghost use Rattle.market.specs.Ranges.{within, limit};
 ghost use Rattle.market.specs.Openings.{terms, month_in_range, calendar_fits, prices_fit};
 ghost use Rattle.market.specs.Opened.{Made, terms_of};
 
@@ -8,46 +9,25 @@ use crate::in_range;
 use crate::month::Month;
 use crate::opening::Opening;
 use crate::refusal::{Cause, Fault};
-
-fn month_in_range(month: Month) -> bool
-    ensures { result ≡ month_in_range month }
-{
-    in_range(month.days, 1, 23) && in_range(month.factor, 1, 100)
-}
+use upto::UpTo;
 
 fn months_in_range(months: &[Month]) -> bool
-    ensures { result ≡ every month_in_range months.now }
+    ensures { result ≡ list_all month_in_range months.now }
 {
-    for month in months {
-        if !month_in_range(*month) {
-            return false;
-        }
-    }
-    true
+    months.iter().all(|month| month.is_in_range())
 }
 
 fn prices_in_range(prices: &[u32]) -> bool
-    ensures { result ≡ every (within 0 limit) prices.now }
+    ensures { result ≡ list_all (within 0 limit) prices.now }
 {
-    for price in prices {
-        if !in_range(*price, 0, 100_000) {
-            return false;
-        }
-    }
-    true
-}
-
-// One to `most` months or zones.
-fn count_in_range(count: usize, most: usize) -> bool
-    ensures { result ≡ within 1 most count }
-{
-    1 <= count && count <= most
+    prices.iter().all(|price| in_range(*price, 0, 100_000))
 }
 
 fn calendar_in_range(months: &[Month], first_hour: u32, last_hour: u32) -> bool
     ensures { result ≡ calendar_fits months.now first_hour last_hour }
 {
-    count_in_range(months.len(), 6)
+    !months.is_empty()
+        && months.len() <= 6
         && months_in_range(months)
         && in_range(first_hour, 1, 24)
         && in_range(last_hour, first_hour, 24)
@@ -56,32 +36,11 @@ fn calendar_in_range(months: &[Month], first_hour: u32, last_hour: u32) -> bool
 fn prices_and_shares_in_range(prices: &[u32], buyout_rate: u32, pass_mark: u32) -> bool
     ensures { result ≡ prices_fit prices.now buyout_rate pass_mark }
 {
-    count_in_range(prices.len(), 10)
+    !prices.is_empty()
+        && prices.len() <= 10
         && prices_in_range(prices)
         && in_range(buyout_rate, 0, 100)
         && in_range(pass_mark, 1, 100)
-}
-
-// The months in the array that an opening keeps.
-fn kept_months(months: &[Month]) -> [Month; 6]
-    requires { length months.now ≤ 6 }
-    ensures { (length result ≡ 6) × (take (length months.now) result ≡ months.now) }
-{
-    let mut kept = [Month { days: 0, factor: 0 }; 6];
-    let count = months.len();
-    kept[0..count].copy_from_slice(months);
-    kept
-}
-
-// The prices in the array that an opening keeps.
-fn kept_prices(prices: &[u32]) -> [u32; 10]
-    requires { length prices.now ≤ 10 }
-    ensures { (length result ≡ 10) × (take (length prices.now) result ≡ prices.now) }
-{
-    let mut kept = [0; 10];
-    let count = prices.len();
-    kept[0..count].copy_from_slice(prices);
-    kept
 }
 
 impl Opening {
@@ -96,18 +55,20 @@ impl Opening {
     ) -> Result<Opening, Fault>
         ensures { Made (terms months.now first_hour last_hour prices.now buyout_rate pass_mark) result }
     {
+        let refused = Err(Fault::of_call(Cause::OutOfRange));
         if !calendar_in_range(months, first_hour, last_hour)
             || !prices_and_shares_in_range(prices, buyout_rate, pass_mark)
         {
-            return Err(Fault::of_call(Cause::OutOfRange));
+            return refused;
         }
+        let (Ok(months), Ok(prices)) = (UpTo::try_from(months), UpTo::try_from(prices)) else {
+            return refused;
+        };
         Ok(Opening {
-            months: kept_months(months),
-            month_count: months.len(),
+            months,
             first_hour,
             last_hour,
-            prices: kept_prices(prices),
-            zone_count: prices.len(),
+            prices,
             buyout_rate,
             pass_mark,
         })
@@ -117,21 +78,21 @@ impl Opening {
     pub fn months(&self) -> &[Month]
         ensures { result.now ≡ (terms_of self.now).months }
     {
-        &self.months[0..self.month_count]
+        self.months.as_slice()
     }
 
     // The prices of the zones, in cents for a megawatt-hour, from zone 1 on.
     pub fn prices(&self) -> &[u32]
         ensures { result.now ≡ (terms_of self.now).prices }
     {
-        &self.prices[0..self.zone_count]
+        self.prices.as_slice()
     }
 
     // How many zones there are.
     pub fn zones(&self) -> u32
         ensures { result ≡ length (terms_of self.now).prices }
     {
-        self.zone_count as u32
+        self.prices().len() as u32
     }
 
     // The first hour of the availability window.

@@ -1,7 +1,7 @@
 use Rattle.std.proofs.Common.{◌≡◌, ◌≤◌, true, length, sym, ap, ◌∙◌, inl, inr, ⊎_elim, arith}
+use Rattle.std.specs.List.{list_all}
 use Rattle.std.proofs.lemmas.Bool.{le-leb}
 use Rattle.market.specs.Opened.{terms_of}
-use Rattle.market.specs.Ranges.{every}
 use Rattle.entryfile.specs.Files.{zones_of}
 use Rattle.entryfile.specs.Forms.{accepts}
 use Rattle.entryfile.specs.Items.{printable, item_bytes}
@@ -29,7 +29,7 @@ returns c =
     let families = c.args.families.now in
     let fit : accepts (entry_form zones families) (numbers_of turn.sender turn.entry) ≡ true = sym (at_zones families turn c.zones.ensures c.if-not-fields_in_range.ensures.is) in
     let few : length (reference_of turn.entry) ≤ 32 = omega (arith, c.if-reference-gt32.false, ap length c.reference-reference.ensures) in
-    let text : every printable (reference_of turn.entry) ≡ true = sym (c.if-not-is_printable.ensures ∙ ap (every printable) c.reference-reference.ensures) in
+    let text : list_all printable (reference_of turn.entry) ≡ true = sym (c.if-not-is_printable.ensures ∙ ap (list_all printable) c.reference-reference.ensures) in
     let room = le-leb (length (item_bytes (item_of turn))) (length was) (omega (arith, c.if-buf-entry_size.false, c.entry_size.ensures.is)) in
     record {
       is = wrote was (item_bytes (item_of turn)) _ _ _ c.put_entry.ensures (item_is_in_range zones families turn fit few) text room;

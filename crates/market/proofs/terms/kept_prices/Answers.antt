@@ -1,6 +1,0 @@
-use Rattle.std.proofs.Common.{◌-◌, length, arith}
-use Rattle.market.proofs.Kept.{kept}
-use Rattle.market.proofs.terms.kept_prices.Goals as goal
-
-pub returns : goal.returns
-returns c = kept c.args.prices.now _ _ (length c.args.prices.now - 0) c.copy_from_slice.ensures.after (omega arith) c.requires

@@ -1,0 +1,10 @@
+// A list of at most `N` items that lies in the value itself: where the subject sets the bound, as with the months of a
+// period, such a list is plain data, made without an allocator.
+#![tactic(auto)]
+
+ghost use Rattle.std.specs.Prelude.{◌≡◌, ◌<◌, MatchResult};
+ghost use Rattle.upto.specs.Listed.{listed};
+
+mod list;
+
+pub use list::{TooMany, UpTo};
