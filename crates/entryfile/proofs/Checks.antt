@@ -1,18 +1,18 @@
 -- How one number is read and checked.
-use Rattle.std.proofs.Common.{◌≡◌, ℕ, Bool, true, false, List, IsErrAnd, Ok, Err, Result, sym, refl, ap, ◌∙◌, ⊎_elim, arith}
+use Rattle.std.proofs.Common.{◌≡◌, ℕ, Bool, true, false, List, length, ◌≤◌, IsErrAnd, Ok, Err, Result, sym, refl, ap, ◌∙◌, ⊎_elim, arith}
 use Rattle.std.proofs.lemmas.Result.{err_from_is_err_and}
+use Rattle.std.proofs.lemmas.List.{drop_all}
 use Rattle.std.proofs.lemmas.Bool.{cond-true, cond-false, cases_Bool}
-use Rattle.number.specs.Numbers.{number_at}
+use Rattle.number.specs.Numbers.{decode_by, decode, placed, number_at}
 use Rattle.number.specs.declared.NumberFault.{NumberFault}
 use Rattle.market.specs.Ranges.{within}
-use Rattle.market.specs.Kinds.{kind_number, mark_number}
-use Rattle.market.specs.declared.kind.Kind.{Kind}
-use Rattle.market.specs.declared.kind.Kind.TheVariants.{VirtualDemandResponse, PhysicalDemandResponse, DispatchableLoad, Generation, Storage, SystemBackedImport, GeneratorBackedImport}
-use Rattle.market.specs.declared.kind.Mark.{Mark}
-use Rattle.market.specs.declared.kind.Mark.TheVariants.{LateData, FailedImportCall}
+use Rattle.market.specs.declared.family.Family.{Family}
 use Rattle.entryfile.specs.declared.fault.EntryFault.{EntryFault}
-use Rattle.entryfile.specs.declared.fault.EntryFault.TheVariants.{Number}
-use Rattle.entryfile.specs.Forms.{Got, checked, checked_at}
+use Rattle.entryfile.specs.declared.fault.EntryFault.TheVariants.{Number, Unknown}
+use Rattle.entryfile.specs.Forms.{Got, checked, checked_at, after_field, form_at}
+use Rattle.entryfile.specs.Layout.{number, fields_form}
+use Rattle.entryfile.specs.Items.{with_reference, entry_at}
+use Rattle.entryfile.specs.Cursors.{ends_at}
 
 -- what leaves by a `?`
 pub exit : {T E : Type 0} {x : E} (r : Result T E) → IsErrAnd r (λ y. y ≡ x) → r ≡ Err x
@@ -57,21 +57,15 @@ module _ (fault : ℕ → EntryFault) (test : ℕ → Bool) (file : List ℕ) (a
       by_cases (Ok q) e = ⊎_elim (λ t. ok_same (e ∙ cond-true _ _ _ t)) (λ f. absurd (ok_not_err (e ∙ cond-false _ _ _ f))) (cases_Bool (test q.0))
       by_cases (Err x) e = absurd (ok_not_err e)
 
-pub kind_within : (k : Kind) (n : ℕ) → kind_number k ≡ n → within 1 7 n ≡ true
-kind_within k n e = ap (within 1 7) (sym e) ∙ known k
-  where
-    known : (k : Kind) → within 1 7 (kind_number k) ≡ true
-    known VirtualDemandResponse = refl
-    known PhysicalDemandResponse = refl
-    known DispatchableLoad = refl
-    known Generation = refl
-    known Storage = refl
-    known SystemBackedImport = refl
-    known GeneratorBackedImport = refl
+-- the number of a kind is in the range of the numbers
+pub named_within : {K : Type 0} (number : K → ℕ) (most n : ℕ) (k : K) → ((k : K) → within 1 most (number k) ≡ true) → number k ≡ n → within 1 most n ≡ true
+named_within number most n k known e = ap (within 1 most) (sym e) ∙ known k
 
-pub mark_within : (m : Mark) (n : ℕ) → mark_number m ≡ n → within 1 2 n ≡ true
-mark_within m n e = ap (within 1 2) (sym e) ∙ known m
-  where
-    known : (m : Mark) → within 1 2 (mark_number m) ≡ true
-    known LateData = refl
-    known FailedImportCall = refl
+-- where no byte stands, there is no number and no entry
+pub number_ends : (file : List ℕ) (at : ℕ) → length file ≤ at → number_at file at ≡ Err (ends_at at)
+unfolding number_at decode decode_by
+number_ends file at h = ap (λ bytes. placed at (decode bytes)) (drop_all at file h)
+
+pub entry_ends : (zones : ℕ) (families : List Family) (file : List ℕ) (at : ℕ) → length file ≤ at → Err (Number (ends_at at)) ≡ entry_at zones families file at
+entry_ends zones families file at h =
+    ap (λ r. with_reference file (after_field (λ k. form_at (number (within 0 999) (λ sender. fields_form zones families k)) file) r)) (check_err Unknown (within 1 13) file at (sym (number_ends file at h)))

@@ -8,5 +8,5 @@ pub mod Reading
 pub mod Spelled
 pub mod Sequence
 pub mod Ranged
-pub mod Opened
 pub mod Handed
+pub mod Mapped

@@ -1,9 +1,7 @@
 -- Parts of a file and their places.
-use Rattle.std.proofs.Common.{◌≡◌, ℕ, ◌+◌, ◌-◌, ◌≤◌, List, length, drop, Ok, sym, ap, ◌∙◌, arith, length-append, length-drop, length-take-le}
-use Rattle.std.specs.Int.Digits.{AllBelowBase}
+use Rattle.std.proofs.Common.{◌≡◌, ℕ, ◌+◌, ◌-◌, ◌<◌, ◌≤◌, List, length, drop, sym, ap, ◌∙◌, arith, length-append, length-drop, length-take-le}
 use Rattle.std.specs.List.{between}
-use Rattle.number.specs.Numbers.{encode, number_at}
-use Rattle.number.proofs.Codec.{number_same}
+use Rattle.number.specs.Numbers.{encode}
 use Rattle.entryfile.specs.Items.{reference_bytes}
 
 pub length_part : (file : List ℕ) (at n : ℕ) → n ≤ length file - at → length (between at (at + n) file) ≡ n
@@ -15,11 +13,10 @@ pub length-between : (file : List ℕ) (at end : ℕ) → at ≤ end → end ≤
 length-between file at end h w = length-take-le (end - at) (drop at file) (omega (arith, length-drop at file))
 
 -- a number ends as many bytes further on as it has
-pub number_size : (file : List ℕ) (at : ℕ) → AllBelowBase 256 file → {n p : ℕ} → Ok (n, p) ≡ number_at file at → p ≡ at + length (encode n)
-number_size file at under {n} {p} e =
-    let s = number_same file under at n p (sym e) in
-    let size = ap length s.0 ∙ length-between file at p (omega (arith, s.1)) s.2 in
-    omega (arith, size, s.1)
+pub number_size : (file : List ℕ) (at n p : ℕ) → encode n ≡ between at p file → at < p → p ≤ length file → p ≡ at + length (encode n)
+number_size file at n p same on within =
+    let size = ap length same ∙ length-between file at p (omega arith) within in
+    omega (arith, size)
 
 -- where a reference of some length ends
 pub reference_ends : (t : List ℕ) (at next end n : ℕ) → length t ≡ n → next ≡ at + length (encode n) → end ≡ next + n → end ≡ at + length (reference_bytes t)

@@ -31,6 +31,11 @@ abbrev pub ahead : List ℕ → Got (List ℕ) → Got (List ℕ)
 ahead [] r = r
 ahead (n ∷ ns) r = more n (ahead ns r)
 
+-- what is read after these numbers
+abbrev pub then_at : (ℕ → Got (List ℕ)) → Got (List ℕ) → Got (List ℕ)
+then_at rest (Ok p) = ahead p.0 (rest p.1)
+then_at rest (Err e) = Err e
+
 abbrev pub after_field : (ℕ → ℕ → Got (List ℕ)) → Got ℕ → Got (List ℕ)
 after_field rest (Ok p) = more p.0 (rest p.0 p.1)
 after_field rest (Err e) = Err e

@@ -20,14 +20,20 @@ version_form rest = field Unknown (within 1 1) (λ _. rest)
 abbrev pub month_form : Form → Form
 month_form rest = number (within 1 23) (λ days. number (within 1 100) (λ factor. rest))
 
+-- so many items, one after another
+abbrev pub items_form : (Form → Form) → ℕ → Form → Form
+items_form item zero rest = rest
+items_form item (suc k) rest = item (items_form item k rest)
+
 abbrev pub months_form : ℕ → Form → Form
-months_form zero rest = rest
-months_form (suc k) rest = month_form (months_form k rest)
+months_form k rest = items_form month_form k rest
 
 -- a price for each zone
+abbrev pub price_form : Form → Form
+price_form rest = number (within 0 limit) (λ _. rest)
+
 abbrev pub prices_form : ℕ → Form → Form
-prices_form zero rest = rest
-prices_form (suc k) rest = number (within 0 limit) (λ _. prices_form k rest)
+prices_form k rest = items_form price_form k rest
 
 -- buy-out rate and pass mark
 abbrev pub shares_form : Form

@@ -3,6 +3,8 @@ pub mod Layout
 pub mod Items
 pub mod Views
 pub mod Files
-pub mod Heads
 pub mod Laws
 pub mod Steps
+pub mod Cursors
+pub mod Numbering
+pub mod Lists

@@ -1,9 +1,7 @@
 -- What the reader answers, and where it stands then.
 use Rattle.std.specs.Prelude.{◌≡◌, ℕ, ◌+◌, ◌-◌, ◌<◌, cond, List, length, Some, None, Ok, Err, Option, Result, nat_le}
 use Rattle.std.specs.List.{between}
-use Rattle.number.specs.declared.NumberCause.{NumberCause}
-use Rattle.number.specs.declared.NumberCause.TheVariants.{Ends, Padded, Large}
-use Rattle.market.specs.Refusals.{fault_at}
+use Rattle.market.specs.Refusals.{number_cause, fault_at}
 use Rattle.market.specs.declared.family.Family.{Family}
 use Rattle.market.specs.declared.refusal.Cause.{Cause}
 use Rattle.market.specs.declared.refusal.Cause.TheVariants as causes
@@ -15,12 +13,6 @@ use Rattle.entryfile.specs.Forms.{Got}
 use Rattle.entryfile.specs.Items.{Item, entry_at, item_bytes}
 use Rattle.entryfile.specs.Laws.{Good, Stands}
 use Rattle.entryfile.specs.Views.{item_of, reference_of, FiguresStand}
-
--- the cause of a fault of the number layer
-abbrev pub number_cause : NumberCause → Cause
-number_cause Ends = causes.Ends
-number_cause Padded = causes.Padded
-number_cause Large = causes.Large
 
 -- the cause of a fault of either layer
 abbrev pub cause_of : EntryFault → Cause

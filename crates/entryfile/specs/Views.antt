@@ -4,8 +4,6 @@ use Rattle.std.specs.Borrow.{Bor}
 use Rattle.std.specs.List.{between}
 use Rattle.number.specs.Numbers.{Decoded, decode}
 use Rattle.market.specs.Kinds.{kind_number, mark_number}
-use Rattle.market.specs.declared.kind.Kind.{Kind}
-use Rattle.market.specs.declared.kind.Mark.{Mark}
 use Rattle.entryfile.specs.declared.fault.EntryFault.{EntryFault}
 use Rattle.entryfile.specs.declared.entry.Figures.{Figures}
 use Rattle.entryfile.specs.declared.entry.Figures.TheVariants.{Encoded, Listed}
@@ -39,82 +37,93 @@ figures_of (Listed numbers) = numbers.now
 
 -- the entry's number, its sender and its fields, in the order of the file
 abbrev pub numbers_of : ℕ → Entry → List ℕ
-numbers_of s (Award holder zone kind quantity icap capability t) = 1 ∷ s ∷ holder ∷ zone ∷ kind_number kind ∷ quantity ∷ icap ∷ capability ∷ []
-numbers_of s (Lodge award holder zone kind quantity capability t) = 2 ∷ s ∷ award ∷ holder ∷ zone ∷ kind_number kind ∷ quantity ∷ capability ∷ []
-numbers_of s (Approve award t) = 3 ∷ s ∷ award ∷ []
-numbers_of s (Reject award t) = 4 ∷ s ∷ award ∷ []
-numbers_of s (BuyOut award quantity t) = 5 ∷ s ∷ award ∷ quantity ∷ []
-numbers_of s (Reduction award quantity t) = 6 ∷ s ∷ award ∷ quantity ∷ []
-numbers_of s (Start t) = 7 ∷ s ∷ []
-numbers_of s (Sheet award family figures t) = 8 ∷ s ∷ award ∷ family ∷ figures_of figures
-numbers_of s (Standby award hour t) = 9 ∷ s ∷ award ∷ hour ∷ []
-numbers_of s (DayEnd t) = 10 ∷ s ∷ []
-numbers_of s (Test award delivered t) = 11 ∷ s ∷ award ∷ delivered ∷ []
-numbers_of s (Marking award sort t) = 12 ∷ s ∷ award ∷ mark_number sort ∷ []
-numbers_of s (Closing t) = 13 ∷ s ∷ []
+numbers_of s (Award a) = 1 ∷ s ∷ a.holder ∷ a.zone ∷ kind_number a.kind ∷ a.quantity ∷ a.cleared_icap ∷ a.capability ∷ []
+numbers_of s (Lodge t) = 2 ∷ s ∷ t.award ∷ t.new_holder ∷ t.zone ∷ kind_number t.kind ∷ t.quantity ∷ t.capability ∷ []
+numbers_of s (Approve d) = 3 ∷ s ∷ d.award ∷ []
+numbers_of s (Reject d) = 4 ∷ s ∷ d.award ∷ []
+numbers_of s (BuyOut o) = 5 ∷ s ∷ o.award ∷ o.quantity ∷ []
+numbers_of s (Reduction o) = 6 ∷ s ∷ o.award ∷ o.quantity ∷ []
+numbers_of s (Start p) = 7 ∷ s ∷ []
+numbers_of s (Sheet f) = 8 ∷ s ∷ f.award ∷ f.family ∷ figures_of f.figures
+numbers_of s (Standby b) = 9 ∷ s ∷ b.award ∷ b.hour ∷ []
+numbers_of s (DayEnd p) = 10 ∷ s ∷ []
+numbers_of s (Test c) = 11 ∷ s ∷ c.award ∷ c.delivered ∷ []
+numbers_of s (Marking m) = 12 ∷ s ∷ m.award ∷ mark_number m.sort ∷ []
+numbers_of s (Closing p) = 13 ∷ s ∷ []
 
 abbrev pub reference_of : Entry → List ℕ
-reference_of (Award holder zone kind quantity icap capability t) = t.now
-reference_of (Lodge award holder zone kind quantity capability t) = t.now
-reference_of (Approve award t) = t.now
-reference_of (Reject award t) = t.now
-reference_of (BuyOut award quantity t) = t.now
-reference_of (Reduction award quantity t) = t.now
-reference_of (Start t) = t.now
-reference_of (Sheet award family figures t) = t.now
-reference_of (Standby award hour t) = t.now
-reference_of (DayEnd t) = t.now
-reference_of (Test award delivered t) = t.now
-reference_of (Marking award sort t) = t.now
-reference_of (Closing t) = t.now
+reference_of (Award a) = a.reference.now
+reference_of (Lodge t) = t.reference.now
+reference_of (Approve d) = d.reference.now
+reference_of (Reject d) = d.reference.now
+reference_of (BuyOut o) = o.reference.now
+reference_of (Reduction o) = o.reference.now
+reference_of (Start p) = p.reference.now
+reference_of (Sheet f) = f.reference.now
+reference_of (Standby b) = b.reference.now
+reference_of (DayEnd p) = p.reference.now
+reference_of (Test c) = c.reference.now
+reference_of (Marking m) = m.reference.now
+reference_of (Closing p) = p.reference.now
 
 abbrev pub item_of : Turn → Item
 item_of turn = item (numbers_of turn.sender turn.entry) (reference_of turn.entry)
 
 -- results of the code, by what their values say
-abbrev pub kind_view : Result (Kind × ℕ) EntryFault → Got ℕ
-kind_view (Ok p) = Ok (kind_number p.0, p.1)
-kind_view (Err e) = Err e
+abbrev pub view_by : {X : Type 0} → (X → List ℕ) → Result (X × ℕ) EntryFault → Got (List ℕ)
+view_by numbers (Ok p) = Ok (numbers p.0, p.1)
+view_by numbers (Err e) = Err e
 
-abbrev pub mark_view : Result (Mark × ℕ) EntryFault → Got ℕ
-mark_view (Ok p) = Ok (mark_number p.0, p.1)
-mark_view (Err e) = Err e
+abbrev pub numbered_view : {K : Type 0} → (K → ℕ) → Result (K × ℕ) EntryFault → Got ℕ
+numbered_view number (Ok p) = Ok (number p.0, p.1)
+numbered_view number (Err e) = Err e
 
 abbrev pub bytes_view : Result (Bor (List ℕ) × ℕ) EntryFault → Got (List ℕ)
 bytes_view (Ok p) = Ok (p.0.now, p.1)
 bytes_view (Err e) = Err e
 
 -- a family, the number of its figures, and the place after it
-abbrev pub family_view : Result (ℕ × ℕ × ℕ) EntryFault → Got ℕ
-family_view (Ok p) = Ok (p.0, p.2)
+abbrev pub family_view : Result ((ℕ × ℕ) × ℕ) EntryFault → Got ℕ
+family_view (Ok p) = Ok (p.0.0, p.1)
 family_view (Err e) = Err e
 
 abbrev pub figures_view : Result (Bor (List ℕ) × ℕ) EntryFault → Got (List ℕ)
 figures_view (Ok p) = Ok (numbers_in p.0.now, p.1)
 figures_view (Err e) = Err e
 
+-- an entry with its sender
+abbrev pub entry_item : ℕ → Entry → Item
+entry_item s e = item (numbers_of s e) (reference_of e)
+
+abbrev pub item_view : {X : Type 0} → (X → Item) → Result (X × ℕ) EntryFault → Got Item
+item_view read (Ok p) = Ok (read p.0, p.1)
+item_view read (Err e) = Err e
+
 abbrev pub entry_view : ℕ → Result (Entry × ℕ) EntryFault → Got Item
-entry_view s (Ok p) = Ok (item (numbers_of s p.0) (reference_of p.0), p.1)
-entry_view s (Err e) = Err e
+entry_view s r = item_view (entry_item s) r
 
 abbrev pub turn_view : Result (Turn × ℕ) EntryFault → Got Item
 turn_view (Ok p) = Ok (item_of p.0, p.1)
 turn_view (Err e) = Err e
 
--- where an entry ends at a place of a file, the figures of a sheet are the part of the file that stands just before the
--- reference and its length
+-- where a sheet with this reference ends at a place of a file, its figures are the part of the file that stands just
+-- before the reference and its length
+abbrev pub SheetStands : List ℕ → ℕ → List ℕ → Figures → Type 0
+SheetStands file end t (Encoded bytes) = bytes.now ≡ between (end - length (reference_bytes t) - length bytes.now) (end - length (reference_bytes t)) file
+SheetStands file end t (Listed numbers) = ⊥
+
+-- every other entry has no figures
 abbrev pub FiguresStand : List ℕ → ℕ → Entry → Type 0
-FiguresStand file end (Award holder zone kind quantity icap capability t) = Unit {0}
-FiguresStand file end (Lodge award holder zone kind quantity capability t) = Unit {0}
-FiguresStand file end (Approve award t) = Unit {0}
-FiguresStand file end (Reject award t) = Unit {0}
-FiguresStand file end (BuyOut award quantity t) = Unit {0}
-FiguresStand file end (Reduction award quantity t) = Unit {0}
-FiguresStand file end (Start t) = Unit {0}
-FiguresStand file end (Sheet award family (Encoded bytes) t) = bytes.now ≡ between (end - length (reference_bytes t.now) - length bytes.now) (end - length (reference_bytes t.now)) file
-FiguresStand file end (Sheet award family (Listed numbers) t) = ⊥
-FiguresStand file end (Standby award hour t) = Unit {0}
-FiguresStand file end (DayEnd t) = Unit {0}
-FiguresStand file end (Test award delivered t) = Unit {0}
-FiguresStand file end (Marking award sort t) = Unit {0}
-FiguresStand file end (Closing t) = Unit {0}
+FiguresStand file end (Award a) = Unit {0}
+FiguresStand file end (Lodge t) = Unit {0}
+FiguresStand file end (Approve d) = Unit {0}
+FiguresStand file end (Reject d) = Unit {0}
+FiguresStand file end (BuyOut o) = Unit {0}
+FiguresStand file end (Reduction o) = Unit {0}
+FiguresStand file end (Start p) = Unit {0}
+FiguresStand file end (Sheet f) = SheetStands file end f.reference.now f.figures
+FiguresStand file end (Standby b) = Unit {0}
+FiguresStand file end (DayEnd p) = Unit {0}
+FiguresStand file end (Test c) = Unit {0}
+FiguresStand file end (Marking m) = Unit {0}
+FiguresStand file end (Closing p) = Unit {0}

@@ -1,302 +1,190 @@
-// Reading one entry: a function for each of the thirteen, from the byte after the sender on.
-ghost use Rattle.std.specs.Prelude.{◌≡◌, ℕ, ◌<◌, ◌≤◌, [], ◌∷◌, length, IfOk};
+// Reading one entry: its number, its sender, the fields that its kind has, and its reference.
+ghost use Rattle.std.specs.Prelude.{◌≡◌, ℕ, ◌≤◌, List, [], ◌∷◌, ◌++◌, length, IfOk};
+ghost use Rattle.market.specs.Ranges.{within};
 ghost use Rattle.entryfile.specs.Forms.{done};
+ghost use Rattle.entryfile.specs.declared.entry.Entry.TheVariants as entries;
 ghost use Rattle.entryfile.specs.Layout.{award_form, lodge_form, named_form, take_off_form, sheet_form, standby_form, test_form, mark_form, fields_form};
-ghost use Rattle.entryfile.specs.Items.{entry_with, entry_at};
-ghost use Rattle.entryfile.specs.Views.{entry_view, turn_view, FiguresStand};
+ghost use Rattle.entryfile.specs.Items.{item, entry_with, entry_at};
+ghost use Rattle.entryfile.specs.Views.{entry_item, entry_view, item_view, turn_view, FiguresStand, SheetStands};
+ghost use Rattle.entryfile.specs.Numbering.{entry_number};
+ghost use Rattle.entryfile.specs.Cursors.{moved, SameFile};
 ghost use Rattle.entryfile.specs.Steps.{FromFile};
 
-use crate::entry::{Entry, Figures, Turn};
-use crate::fault::EntryFault;
-use crate::fields::{
-    award_at, capability_at, family_at, figures_at, kind_at, known_at, range_at, reference_at,
-    sort_at,
+use crate::cursor::Cursor;
+use crate::entry::{
+    CapabilityTest, Decision, Entry, EntryKind, Figures, Marking, NewAward, Plain, Sheet, Standby,
+    TakeOff, Transfer, Turn,
 };
+use crate::fault::EntryFault;
 use market::Family;
 
-fn read_award<'a>(
-    file: &'a [u8],
-    at: usize,
-    sender: u32,
-    zones: u32,
-) -> Result<(Entry<'a>, usize), EntryFault>
-    ensures { entry_view sender result ≡ entry_with (1 ∷ sender ∷ []) (award_form zones) file.now at }
-{
-    let (holder, at) = range_at(file, at, 1, 999)?;
-    let (zone, at) = range_at(file, at, 1, zones)?;
-    let (kind, at) = kind_at(file, at)?;
-    let (quantity, at) = range_at(file, at, 10, 100_000)?;
-    let (cleared_icap, at) = range_at(file, at, quantity, 100_000)?;
-    let (capability, at) = capability_at(file, at, kind)?;
-    let (reference, at) = reference_at(file, at)?;
-    Ok((
-        Entry::Award {
-            holder,
-            zone,
-            kind,
-            quantity,
-            cleared_icap,
-            capability,
-            reference,
-        },
-        at,
-    ))
+// What a reader must know of a book: how many zones it has, and its families.
+#[derive(Clone, Copy)]
+pub struct Setting<'a> {
+    pub zones: u32,
+    pub families: &'a [Family],
 }
 
-fn read_lodge<'a>(
-    file: &'a [u8],
-    at: usize,
-    sender: u32,
-    zones: u32,
-) -> Result<(Entry<'a>, usize), EntryFault>
-    ensures { entry_view sender result ≡ entry_with (2 ∷ sender ∷ []) (lodge_form zones) file.now at }
+// A new award, whose zone is one of the book's.
+fn new_award<'a>(cursor: &mut Cursor<'a>, zones: u32) -> Result<NewAward<'a>, EntryFault>
+    ensures { (s : ℕ) → item_view (λ a. entry_item s (entries.Award a)) (moved result cursor.new) ≡ entry_with (1 ∷ s ∷ []) (award_form zones) cursor.old.file.now cursor.old.place }
 {
-    let (award, at) = award_at(file, at)?;
-    let (new_holder, at) = range_at(file, at, 1, 999)?;
-    let (zone, at) = range_at(file, at, 1, zones)?;
-    let (kind, at) = kind_at(file, at)?;
-    let (quantity, at) = range_at(file, at, 10, 100_000)?;
-    let (capability, at) = capability_at(file, at, kind)?;
-    let (reference, at) = reference_at(file, at)?;
-    Ok((
-        Entry::Lodge {
-            award,
-            new_holder,
-            zone,
-            kind,
-            quantity,
-            capability,
-            reference,
-        },
-        at,
-    ))
+    let holder = cursor.range(1, 999)?;
+    let zone = cursor.range(1, zones)?;
+    let kind = cursor.numbered()?;
+    let quantity = cursor.range(10, 100_000)?;
+    Ok(NewAward {
+        holder,
+        zone,
+        kind,
+        quantity,
+        cleared_icap: cursor.range(quantity, 100_000)?,
+        capability: cursor.capability(kind)?,
+        reference: cursor.reference()?,
+    })
 }
 
-fn read_approve<'a>(
-    file: &'a [u8],
-    at: usize,
-    sender: u32,
-) -> Result<(Entry<'a>, usize), EntryFault>
-    ensures { entry_view sender result ≡ entry_with (3 ∷ sender ∷ []) named_form file.now at }
+// A request to transfer, whose zone is one of the book's.
+fn transfer<'a>(cursor: &mut Cursor<'a>, zones: u32) -> Result<Transfer<'a>, EntryFault>
+    ensures { (s : ℕ) → item_view (λ t. entry_item s (entries.Lodge t)) (moved result cursor.new) ≡ entry_with (2 ∷ s ∷ []) (lodge_form zones) cursor.old.file.now cursor.old.place }
 {
-    let (award, at) = award_at(file, at)?;
-    let (reference, at) = reference_at(file, at)?;
-    Ok((Entry::Approve { award, reference }, at))
+    let award = cursor.award()?;
+    let new_holder = cursor.range(1, 999)?;
+    let zone = cursor.range(1, zones)?;
+    let kind = cursor.numbered()?;
+    Ok(Transfer {
+        award,
+        new_holder,
+        zone,
+        kind,
+        quantity: cursor.range(10, 100_000)?,
+        capability: cursor.capability(kind)?,
+        reference: cursor.reference()?,
+    })
 }
 
-fn read_reject<'a>(file: &'a [u8], at: usize, sender: u32) -> Result<(Entry<'a>, usize), EntryFault>
-    ensures { entry_view sender result ≡ entry_with (4 ∷ sender ∷ []) named_form file.now at }
+// What is decided on a request: an Approve or a Reject.
+fn decision<'a>(cursor: &mut Cursor<'a>) -> Result<Decision<'a>, EntryFault>
+    ensures { (k s : ℕ) → item_view (λ d. item (k ∷ s ∷ d.award ∷ []) d.reference.now) (moved result cursor.new) ≡ entry_with (k ∷ s ∷ []) named_form cursor.old.file.now cursor.old.place }
 {
-    let (award, at) = award_at(file, at)?;
-    let (reference, at) = reference_at(file, at)?;
-    Ok((Entry::Reject { award, reference }, at))
+    Ok(Decision {
+        award: cursor.award()?,
+        reference: cursor.reference()?,
+    })
 }
 
-fn read_buy_out<'a>(
-    file: &'a [u8],
-    at: usize,
-    sender: u32,
-) -> Result<(Entry<'a>, usize), EntryFault>
-    ensures { entry_view sender result ≡ entry_with (5 ∷ sender ∷ []) take_off_form file.now at }
+// What is taken off an award: a Buy-out or a Reduction.
+fn take_off<'a>(cursor: &mut Cursor<'a>) -> Result<TakeOff<'a>, EntryFault>
+    ensures { (k s : ℕ) → item_view (λ o. item (k ∷ s ∷ o.award ∷ o.quantity ∷ []) o.reference.now) (moved result cursor.new) ≡ entry_with (k ∷ s ∷ []) take_off_form cursor.old.file.now cursor.old.place }
 {
-    let (award, at) = award_at(file, at)?;
-    let (quantity, at) = range_at(file, at, 1, 100_000)?;
-    let (reference, at) = reference_at(file, at)?;
-    Ok((
-        Entry::BuyOut {
-            award,
-            quantity,
-            reference,
-        },
-        at,
-    ))
+    Ok(TakeOff {
+        award: cursor.award()?,
+        quantity: cursor.range(1, 100_000)?,
+        reference: cursor.reference()?,
+    })
 }
 
-fn read_reduction<'a>(
-    file: &'a [u8],
-    at: usize,
-    sender: u32,
-) -> Result<(Entry<'a>, usize), EntryFault>
-    ensures { entry_view sender result ≡ entry_with (6 ∷ sender ∷ []) take_off_form file.now at }
+// A sheet of one of the book's families.
+fn sheet<'a>(cursor: &mut Cursor<'a>, families: &[Family]) -> Result<Sheet<'a>, EntryFault>
+    ensures is { (s : ℕ) → item_view (λ f. entry_item s (entries.Sheet f)) (moved result cursor.new) ≡ entry_with (8 ∷ s ∷ []) (sheet_form families.now) cursor.old.file.now cursor.old.place }
+    ensures figures { IfOk result (λ f. SheetStands cursor.old.file.now cursor.new.place f.reference.now f.figures) }
 {
-    let (award, at) = award_at(file, at)?;
-    let (quantity, at) = range_at(file, at, 1, 100_000)?;
-    let (reference, at) = reference_at(file, at)?;
-    Ok((
-        Entry::Reduction {
-            award,
-            quantity,
-            reference,
-        },
-        at,
-    ))
+    let award = cursor.award()?;
+    let (family, count) = cursor.family(families)?;
+    Ok(Sheet {
+        award,
+        family,
+        figures: Figures::Encoded(cursor.figures(count)?),
+        reference: cursor.reference()?,
+    })
 }
 
-fn read_start<'a>(file: &'a [u8], at: usize, sender: u32) -> Result<(Entry<'a>, usize), EntryFault>
-    ensures { entry_view sender result ≡ entry_with (7 ∷ sender ∷ []) done file.now at }
+fn standby<'a>(cursor: &mut Cursor<'a>) -> Result<Standby<'a>, EntryFault>
+    ensures { (s : ℕ) → item_view (λ b. entry_item s (entries.Standby b)) (moved result cursor.new) ≡ entry_with (9 ∷ s ∷ []) standby_form cursor.old.file.now cursor.old.place }
 {
-    let (reference, at) = reference_at(file, at)?;
-    Ok((Entry::Start { reference }, at))
+    Ok(Standby {
+        award: cursor.award()?,
+        hour: cursor.range(1, 24)?,
+        reference: cursor.reference()?,
+    })
 }
 
-fn read_sheet<'a>(
-    file: &'a [u8],
-    at: usize,
-    sender: u32,
-    families: &[Family],
-) -> Result<(Entry<'a>, usize), EntryFault>
-    ensures is { entry_view sender result ≡ entry_with (8 ∷ sender ∷ []) (sheet_form families.now) file.now at }
-    ensures figures { IfOk result (λ p. FiguresStand file.now p.1 p.0) }
+fn capability_test<'a>(cursor: &mut Cursor<'a>) -> Result<CapabilityTest<'a>, EntryFault>
+    ensures { (s : ℕ) → item_view (λ c. entry_item s (entries.Test c)) (moved result cursor.new) ≡ entry_with (11 ∷ s ∷ []) test_form cursor.old.file.now cursor.old.place }
 {
-    let (award, at) = award_at(file, at)?;
-    let (family, count, at) = family_at(file, at, families)?;
-    let (figures, at) = figures_at(file, at, count)?;
-    let figures = Figures::Encoded(figures);
-    let (reference, at) = reference_at(file, at)?;
-    Ok((
-        Entry::Sheet {
-            award,
-            family,
-            figures,
-            reference,
-        },
-        at,
-    ))
+    Ok(CapabilityTest {
+        award: cursor.award()?,
+        delivered: cursor.range(0, 100_000)?,
+        reference: cursor.reference()?,
+    })
 }
 
-fn read_standby<'a>(
-    file: &'a [u8],
-    at: usize,
-    sender: u32,
-) -> Result<(Entry<'a>, usize), EntryFault>
-    ensures { entry_view sender result ≡ entry_with (9 ∷ sender ∷ []) standby_form file.now at }
+fn marking<'a>(cursor: &mut Cursor<'a>) -> Result<Marking<'a>, EntryFault>
+    ensures { (s : ℕ) → item_view (λ m. entry_item s (entries.Marking m)) (moved result cursor.new) ≡ entry_with (12 ∷ s ∷ []) mark_form cursor.old.file.now cursor.old.place }
 {
-    let (award, at) = award_at(file, at)?;
-    let (hour, at) = range_at(file, at, 1, 24)?;
-    let (reference, at) = reference_at(file, at)?;
-    Ok((
-        Entry::Standby {
-            award,
-            hour,
-            reference,
-        },
-        at,
-    ))
+    Ok(Marking {
+        award: cursor.award()?,
+        sort: cursor.numbered()?,
+        reference: cursor.reference()?,
+    })
 }
 
-fn read_day_end<'a>(
-    file: &'a [u8],
-    at: usize,
-    sender: u32,
-) -> Result<(Entry<'a>, usize), EntryFault>
-    ensures { entry_view sender result ≡ entry_with (10 ∷ sender ∷ []) done file.now at }
+// No fields: a Start, a Day end or a Closing.
+fn plain<'a>(cursor: &mut Cursor<'a>) -> Result<Plain<'a>, EntryFault>
+    ensures { (k s : ℕ) → item_view (λ p. item (k ∷ s ∷ []) p.reference.now) (moved result cursor.new) ≡ entry_with (k ∷ s ∷ []) done cursor.old.file.now cursor.old.place }
 {
-    let (reference, at) = reference_at(file, at)?;
-    Ok((Entry::DayEnd { reference }, at))
+    Ok(Plain {
+        reference: cursor.reference()?,
+    })
 }
 
-fn read_test<'a>(file: &'a [u8], at: usize, sender: u32) -> Result<(Entry<'a>, usize), EntryFault>
-    ensures { entry_view sender result ≡ entry_with (11 ∷ sender ∷ []) test_form file.now at }
+// The entry of a kind, from the byte after its sender on.
+fn entry<'a>(
+    cursor: &mut Cursor<'a>,
+    kind: EntryKind,
+    setting: Setting<'_>,
+) -> Result<Entry<'a>, EntryFault>
+    ensures is { (s : ℕ) → entry_view s (moved result cursor.new) ≡ entry_with (entry_number kind ∷ s ∷ []) (fields_form setting.entry.zones setting.entry.families.now (entry_number kind)) cursor.old.file.now cursor.old.place }
+    ensures figures { IfOk result (FiguresStand cursor.old.file.now cursor.new.place) }
 {
-    let (award, at) = award_at(file, at)?;
-    let (delivered, at) = range_at(file, at, 0, 100_000)?;
-    let (reference, at) = reference_at(file, at)?;
-    Ok((
-        Entry::Test {
-            award,
-            delivered,
-            reference,
-        },
-        at,
-    ))
-}
-
-fn read_marking<'a>(
-    file: &'a [u8],
-    at: usize,
-    sender: u32,
-) -> Result<(Entry<'a>, usize), EntryFault>
-    ensures { entry_view sender result ≡ entry_with (12 ∷ sender ∷ []) mark_form file.now at }
-{
-    let (award, at) = award_at(file, at)?;
-    let (sort, at) = sort_at(file, at)?;
-    let (reference, at) = reference_at(file, at)?;
-    Ok((
-        Entry::Marking {
-            award,
-            sort,
-            reference,
-        },
-        at,
-    ))
-}
-
-fn read_closing<'a>(
-    file: &'a [u8],
-    at: usize,
-    sender: u32,
-) -> Result<(Entry<'a>, usize), EntryFault>
-    ensures { entry_view sender result ≡ entry_with (13 ∷ sender ∷ []) done file.now at }
-{
-    let (reference, at) = reference_at(file, at)?;
-    Ok((Entry::Closing { reference }, at))
-}
-
-// The fields and the reference of the entry with a number, from the byte after its sender on.
-fn fields_at<'a>(
-    file: &'a [u8],
-    at: usize,
-    number: u32,
-    sender: u32,
-    zones: u32,
-    families: &[Family],
-) -> Result<(Entry<'a>, usize), EntryFault>
-    requires { (1 ≤ number) × (number ≤ 13) }
-    ensures is { entry_view sender result ≡ entry_with (number ∷ sender ∷ []) (fields_form zones families.now number) file.now at }
-    ensures figures { number ≡ 8 → IfOk result (λ p. FiguresStand file.now p.1 p.0) }
-{
-    match number {
-        1 => read_award(file, at, sender, zones),
-        2 => read_lodge(file, at, sender, zones),
-        3 => read_approve(file, at, sender),
-        4 => read_reject(file, at, sender),
-        5 => read_buy_out(file, at, sender),
-        6 => read_reduction(file, at, sender),
-        7 => read_start(file, at, sender),
-        8 => read_sheet(file, at, sender, families),
-        9 => read_standby(file, at, sender),
-        10 => read_day_end(file, at, sender),
-        11 => read_test(file, at, sender),
-        12 => read_marking(file, at, sender),
-        _ => read_closing(file, at, sender),
+    match kind {
+        EntryKind::Award => new_award(cursor, setting.zones).map(Entry::Award),
+        EntryKind::Lodge => transfer(cursor, setting.zones).map(Entry::Lodge),
+        EntryKind::Approve => decision(cursor).map(Entry::Approve),
+        EntryKind::Reject => decision(cursor).map(Entry::Reject),
+        EntryKind::BuyOut => take_off(cursor).map(Entry::BuyOut),
+        EntryKind::Reduction => take_off(cursor).map(Entry::Reduction),
+        EntryKind::Start => plain(cursor).map(Entry::Start),
+        EntryKind::Sheet => sheet(cursor, setting.families).map(Entry::Sheet),
+        EntryKind::Standby => standby(cursor).map(Entry::Standby),
+        EntryKind::DayEnd => plain(cursor).map(Entry::DayEnd),
+        EntryKind::Test => capability_test(cursor).map(Entry::Test),
+        EntryKind::Marking => marking(cursor).map(Entry::Marking),
+        EntryKind::Closing => plain(cursor).map(Entry::Closing),
     }
 }
 
-// The entry at a place with its sender, and the place after it, part by part.
-fn turn_by_parts<'a>(
-    file: &'a [u8],
-    at: usize,
-    zones: u32,
-    families: &[Family],
-) -> Result<(Turn<'a>, usize), EntryFault>
-    ensures is { turn_view result ≡ entry_at zones families.now file.now at }
-    ensures figures { IfOk result (λ p. FiguresStand file.now p.1 p.0.entry) }
+// The entry at the cursor with its sender.
+fn turn<'a>(cursor: &mut Cursor<'a>, setting: Setting<'_>) -> Result<Turn<'a>, EntryFault>
+    ensures is { turn_view (moved result cursor.new) ≡ entry_at setting.entry.zones setting.entry.families.now cursor.old.file.now cursor.old.place }
+    ensures figures { IfOk result (λ t. FiguresStand cursor.old.file.now cursor.new.place t.entry) }
 {
-    let (number, next) = known_at(file, at, 13)?;
-    let (sender, next) = range_at(file, next, 0, 999)?;
-    let (entry, end) = fields_at(file, next, number, sender, zones, families)?;
-    Ok((Turn { sender, entry }, end))
+    let kind = cursor.entry_kind()?;
+    let sender = cursor.range(0, 999)?;
+    let entry = entry(cursor, kind, setting)?;
+    Ok(Turn { sender, entry })
 }
 
 // The entry at a place with its sender, and the place after it. What was read can be written again, byte for byte.
 pub fn turn_at<'a>(
     file: &'a [u8],
     at: usize,
-    zones: u32,
-    families: &[Family],
+    setting: Setting<'_>,
 ) -> Result<(Turn<'a>, usize), EntryFault>
-    ensures is { turn_view result ≡ entry_at zones families.now file.now at }
-    ensures handed { at ≤ length file.now → IfOk result (λ p. FromFile zones families.now file.now at p.1 p.0) }
+    ensures is { turn_view result ≡ entry_at setting.entry.zones setting.entry.families.now file.now at }
+    ensures handed { at ≤ length file.now → IfOk result (λ p. FromFile setting.entry.zones setting.entry.families.now file.now at p.1 p.0) }
 {
-    turn_by_parts(file, at, zones, families)
+    let mut cursor = Cursor::at(file, at)?;
+    let turn = turn(&mut cursor, setting)?;
+    Ok((turn, cursor.place))
 }

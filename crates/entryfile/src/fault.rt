@@ -1,10 +1,10 @@
 // Faults of the entry layer, which hold those of the number layer.
 ghost use Rattle.std.specs.Prelude.{◌≡◌};
-ghost use Rattle.entryfile.specs.Steps.{number_cause, cause_of, place_of, fault_of};
+ghost use Rattle.entryfile.specs.Steps.{cause_of, place_of, fault_of};
 ghost use Rattle.entryfile.specs.declared.fault.EntryFault.TheVariants.{Number};
 
 use market::{Cause, Fault};
-use number::{NumberCause, NumberFault};
+use number::NumberFault;
 
 // Why an entry or an opening cannot be read, and the byte where the faulty part begins.
 #[derive(Clone, Copy, Debug, PartialEq)]
@@ -27,23 +27,13 @@ impl From<NumberFault> for EntryFault {
     }
 }
 
-fn number_cause(cause: NumberCause) -> Cause
-    ensures { result ≡ number_cause cause }
-{
-    match cause {
-        NumberCause::Ends => Cause::Ends,
-        NumberCause::Padded => Cause::Padded,
-        NumberCause::Large => Cause::Large,
-    }
-}
-
 impl EntryFault {
     // The cause by which the refusal table knows the fault.
     fn cause(self) -> Cause
         ensures { result ≡ cause_of self }
     {
         match self {
-            EntryFault::Number(fault) => number_cause(fault.cause),
+            EntryFault::Number(fault) => Cause::from(fault.cause),
             EntryFault::Unknown(_) => Cause::Unknown,
             EntryFault::OutOfRange(_) => Cause::OutOfRange,
             EntryFault::BadText(_) => Cause::BadText,
