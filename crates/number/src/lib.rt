@@ -31,56 +31,38 @@ pub fn read_number(file: &[u8], at: usize) -> Result<(u32, usize), NumberFault>
     ensures within { IfOk result (λ p. (at < p.1) × (p.1 ≤ length file.now)) }
     ensures rewrites { IfOk result (λ p. encode p.0 ≡ between at p.1 file.now) }
 {
-    if at >= file.len() {
-        return Err(NumberFault {
-            cause: NumberCause::Ends,
-            place: at,
-        });
+    let bytes = file.get(at..).unwrap_or(&[]);
+    // most numbers have one byte
+    if let [first, ..] = bytes
+        && *first < 128
+    {
+        return Ok((u32::from(*first), at + 1));
     }
-    let first = file[at];
-    if first < 128 {
-        return Ok((first as u32, at + 1));
+    match read_groups(bytes) {
+        Ok((n, size)) => Ok((n, at + size)),
+        Err(cause) => Err(NumberFault { cause, place: at }),
     }
-    read_groups(file, at)
 }
 
-// A number of several groups, whose first byte stands at `at`.
-fn read_groups(file: &[u8], at: usize) -> Result<(u32, usize), NumberFault>
-    ensures is { result ≡ number_at file.now at }
-    ensures within { IfOk result (λ p. (at < p.1) × (p.1 ≤ length file.now)) }
-    ensures rewrites { IfOk result (λ p. encode p.0 ≡ between at p.1 file.now) }
+// The number at the front of `bytes`, and how many of them it takes.
+fn read_groups(bytes: &[u8]) -> Result<(u32, usize), NumberCause>
+    ensures { result ≡ decode bytes.now }
 {
-    let mut value: u32 = 0;
-    let mut scale: u32 = 1;
-    let mut place = at;
-    for group in 0..5u8 {
-        if place >= file.len() {
-            return Err(NumberFault {
-                cause: NumberCause::Ends,
-                place: at,
-            });
-        }
-        let byte = file[place];
+    let mut value = 0;
+    // a fifth byte of at most 15 is the last, so the loop stops there
+    for (group, &byte) in bytes.iter().enumerate() {
         if group == 4 && byte > 15 {
-            break;
+            return Err(NumberCause::Large);
         }
         if byte == 0 && group > 0 {
-            return Err(NumberFault {
-                cause: NumberCause::Padded,
-                place: at,
-            });
+            return Err(NumberCause::Padded);
         }
-        value += (byte % 128) as u32 * scale;
-        place += 1;
+        value += u32::from(byte % 128) << (7 * group);
         if byte < 128 {
-            return Ok((value, place));
+            return Ok((value, group + 1));
         }
-        scale *= 128;
     }
-    Err(NumberFault {
-        cause: NumberCause::Large,
-        place: at,
-    })
+    Err(NumberCause::Ends)
 }
 
 // How many bytes `n` takes.

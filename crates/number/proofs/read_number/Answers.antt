@@ -1,13 +1,29 @@
-use Rattle.std.proofs.Common.{sym, arith}
-use Rattle.number.proofs.Codec.{number_same, under_bytes}
-use Rattle.number.proofs.Turns.{number_ends, number_low}
+use Rattle.std.proofs.Common.{◌≡◌, drop, arith}
+use Rattle.std.proofs.lemmas.Grind.{common_steps}
+use Rattle.std.proofs.lemmas.List.{drop_all}
+use Rattle.number.proofs.Turns.{decode_first, stands, faults}
 use Rattle.number.proofs.read_number.Goals as goal
 
-pub returns-then-at-file : goal.returns-then-at-file
-returns-then-at-file c = record { is = number_ends _ _ (omega arith); within = tt; rewrites = tt }
+pub returns : goal.returns
+returns c =
+    let from : c.unwrap_or-bytes.result.now ≡ drop c.args.at c.args.file.now = grind (arith, common_steps, drop_all) in
+    let e = decode_first c.unwrap_or-bytes.result.now (omega arith) (omega arith) in
+    let s = stands c.args.file.now c.unwrap_or-bytes.result.now c.args.at _ 1 c.type_inv.file from e in
+    rw c.from.ensures (record { is = s.is; within = s.within; rewrites = s.rewrites })
 
-pub returns-then-first-lt128 : goal.returns-then-first-lt128
-returns-then-first-lt128 c =
-    let e = number_low _ _ c.if-at-file.false c.if-first-lt128.true in
-    let s = number_same _ (under_bytes _ (λ i. omega (arith, c.type_inv.file i))) _ _ _ (sym e) in
-    record { is = e; within = (s.1, s.2); rewrites = s.0 }
+pub overflow_add-result-in-Ok : goal.overflow_add-result-in-Ok
+overflow_add-result-in-Ok c =
+    let from : c.unwrap_or-bytes.result.now ≡ drop c.args.at c.args.file.now = grind (arith, common_steps, drop_all) in
+    let s = stands c.args.file.now c.unwrap_or-bytes.result.now c.args.at c.in-Ok.n c.in-Ok.size c.type_inv.file from c.in-Ok.ensures in
+    omega (arith, s.within)
+
+pub returns-in-Ok : goal.returns-in-Ok
+returns-in-Ok c =
+    let from : c.unwrap_or-bytes.result.now ≡ drop c.args.at c.args.file.now = grind (arith, common_steps, drop_all) in
+    let s = stands c.args.file.now c.unwrap_or-bytes.result.now c.args.at c.in-Ok.n c.in-Ok.size c.type_inv.file from c.in-Ok.ensures in
+    record { is = s.is; within = s.within; rewrites = s.rewrites }
+
+pub returns-in-Err : goal.returns-in-Err
+returns-in-Err c =
+    let from : c.unwrap_or-bytes.result.now ≡ drop c.args.at c.args.file.now = grind (arith, common_steps, drop_all) in
+    record { is = faults c.args.file.now c.unwrap_or-bytes.result.now c.args.at c.in-Err.cause from c.in-Err.ensures; within = tt; rewrites = tt }
