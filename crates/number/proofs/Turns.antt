@@ -4,12 +4,13 @@ use native.Mathlib.Nat.{pow-le-pow_right}
 use Rattle.std.specs.List.{between}
 use Rattle.std.proofs.lemmas.Bool.{cases_eq, lt-ltb, cond-true}
 use Rattle.std.proofs.lemmas.Bool.Decides.{nat_tests}
+use Rattle.std.proofs.lemmas.Grind.{common_steps}
 use Rattle.std.proofs.lemmas.Nat.{mul-le, pow-add}
 use Rattle.std.proofs.lemmas.List.{drop_more, drop_all}
 use Rattle.number.specs.declared.NumberCause.{NumberCause}
 use Rattle.number.specs.declared.NumberCause.TheVariants.{Ends, Padded, Large}
 use Rattle.number.specs.Numbers.{encode, Decoded, before, last, decode_by, decode, placed, number_at}
-use Rattle.number.proofs.Codec.{cap, cap_least, read_low, read_high, last_ok, number_same, under_bytes}
+use Rattle.number.proofs.Codec.{cap, cap_least, read_low, read_high, last_ok, got, number_same, under_bytes}
 
 -- what is read at last, where `value` and `used` are of the bytes so far, and the next group counts `scale`
 abbrev pub behind : ℕ → ℕ → ℕ → Decoded → Decoded
@@ -54,12 +55,13 @@ step bytes group first few in' high =
     let f : 4 - group ≡ suc (4 - (group + 1)) = omega arith in
     rw (drop_more bytes group 0 in', f) (read_high (4 - (group + 1)) (get_or bytes group 0) first (drop (group + 1) bytes) high)
 
-pub reading_more : (bytes : List ℕ) (group value low : ℕ) → Reading bytes group value → low ≡ get_or bytes group 0 % 128 → group < 4 → group < length bytes → 128 ≤ get_or bytes group 0 → Reading bytes (group + 1) (value + low * 2 ^ (7 * group) % 4294967296)
-reading_more bytes group value low r e few in' high =
+pub reading_more : (bytes : List ℕ) (group value low : ℕ) → Reading bytes group value → low ≡ get_or bytes group 0 % 128 → group < length bytes → 128 ≤ get_or bytes group 0 → (group ≡ 4 → get_or bytes group 0 ≤ 15) → Reading bytes (group + 1) (value + low * 2 ^ (7 * group) % 4294967296)
+reading_more bytes group value low r e in' high fifth =
     let b = get_or bytes group 0 in
+    let few : group < 4 = grind (arith, r.few) in
     let s = next_scale group in
     let f : false ≡ eqb (group + 1) 0 = grind (arith, nat_tests) in
-    rw (e, shifted group b r.few (λ q. absurd (omega arith))) (record {
+    rw (e, shifted group b r.few fifth) (record {
       few = omega arith;
       small = omega (arith, r.small, mul-le (b % 128) (2 ^ (7 * group)) 127 (2 ^ (7 * group)) (omega arith) (omega arith));
       rest = rw (← s, ← f) (r.rest ∙ ap (behind value (2 ^ (7 * group)) group) (step bytes group (eqb group 0) few in' high) ∙ behind_before value (2 ^ (7 * group)) group b _);
@@ -108,18 +110,25 @@ decode_first bytes some low =
     ap (λ n. Ok (n, 1)) m ∙ reading_last bytes 0 0 (get_or bytes 0 0 % 128) (reading_none bytes) refl some low (λ e. absurd (omega arith)) (λ _. refl)
 
 -- what a number at the front of the bytes from `at` on says of the file
-pub record Stands (file : List ℕ) (at n size : ℕ) : Type 0 where
-  pub is : Ok (n, at + size) ≡ number_at file at
-  pub within : (at < at + size) × (at + size ≤ length file)
-  pub rewrites : encode n ≡ between at (at + size) file
-
-pub stands : (file bytes : List ℕ) (at n size : ℕ) → ((i : ℕ) → Fits w8 (get_or file i 0)) → bytes ≡ drop at file → Ok (n, size) ≡ decode bytes → Stands file at n size
+pub number_is : (file bytes : List ℕ) (at n size : ℕ) → bytes ≡ drop at file → Ok (n, size) ≡ decode bytes → Ok (n, at + size) ≡ number_at file at
 unfolding number_at
-stands file bytes at n size typed from e =
-    let is = rw from at (ap (placed at) e) in
-    let s = number_same file (under_bytes file (λ i. omega (arith, typed i))) at n (at + size) (sym is) in
-    record { is = is; within = (s.1, s.2); rewrites = s.0 }
+number_is file bytes at n size from e = rw from at (ap (placed at) e)
+
+pub number_after : (bytes : List ℕ) (n size : ℕ) → Ok (n, size) ≡ decode bytes → 0 < size
+number_after bytes n size e = (got bytes n size (sym e)).least
+
+pub number_within : (bytes : List ℕ) (n size : ℕ) → Ok (n, size) ≡ decode bytes → size ≤ length bytes
+number_within bytes n size e = (got bytes n size (sym e)).within
+
+pub number_rewrites : (file : List ℕ) (at n size : ℕ) → ((i : ℕ) → Fits w8 (get_or file i 0)) → Ok (n, size) ≡ decode (drop at file) → encode n ≡ between at (at + size) file
+number_rewrites file at n size typed e = (number_same file (under_bytes file (λ i. omega (arith, typed i))) at n (at + size) (sym (number_is file _ at n size refl e))).0
 
 pub faults : (file bytes : List ℕ) (at : ℕ) (e : NumberCause) → bytes ≡ drop at file → Err e ≡ decode bytes → Err (record { cause = e; place = at }) ≡ number_at file at
 unfolding number_at
 faults file bytes at e from h = rw from at (ap (placed at) h)
+
+-- what `read_groups` asks for at each return and as it begins
+pub ruleset readings = (reading_none, reading_last, reading_ends, reading_padded, reading_large)
+
+-- what `read_number` asks for of the bytes from a place on
+pub ruleset placings = (common_steps, drop_all, decode_first, number_is, number_after, number_within, number_rewrites, faults)

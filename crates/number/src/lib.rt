@@ -26,6 +26,7 @@ pub struct NumberFault {
 }
 
 // The number that begins at `at`, and the place after it.
+#[tactic(auto, using(crate::proofs::Turns::placings))]
 pub fn read_number(file: &[u8], at: usize) -> Result<(u32, usize), NumberFault>
     ensures is { result ≡ number_at file.now at }
     ensures within { IfOk result (λ p. (at < p.1) × (p.1 ≤ length file.now)) }
@@ -45,6 +46,7 @@ pub fn read_number(file: &[u8], at: usize) -> Result<(u32, usize), NumberFault>
 }
 
 // The number at the front of `bytes`, and how many of them it takes.
+#[tactic(auto, using(crate::proofs::Turns::readings))]
 fn read_groups(bytes: &[u8]) -> Result<(u32, usize), NumberCause>
     ensures { result ≡ decode bytes.now }
 {
