@@ -1,5 +1,7 @@
 -- The bytes of a number, and the laws of reading and writing one.
-use Rattle.std.proofs.Common.{◌≡◌, ℕ, zero, suc, ◌+◌, ◌-◌, ◌*◌, ◌/◌, ◌%◌, ◌^◌, ◌<◌, ◌≤◌, Bool, true, false, not, ◌&&◌, eqb, List, [], ◌∷◌, ◌++◌, length, get_or, take, drop, Ok, Err, Result, sym, refl, ap, ◌∙◌, ⊎_elim, add-one, arith, length-drop}
+use Rattle.std.proofs.Common.{◌≡◌, ℕ, zero, suc, ◌+◌, ◌-◌, ◌*◌, ◌/◌, ◌%◌, ◌^◌, ◌<◌, ◌≤◌, max, Bool, true, false, not, ◌&&◌, eqb, List, [], ◌∷◌, ◌++◌, length, get_or, take, drop, Ok, Err, Result, sym, refl, ap, ◌∙◌, ⊎_elim, add-one, arith, length-drop}
+use native.Mathlib.Nat.{pow-le-pow_right}
+use Rattle.std.proofs.lemmas.Nat.{pow-add, pow_pos}
 use Rattle.std.specs.Int.Digits.{AllBelowBase}
 use Rattle.std.specs.List.{between}
 use Rattle.std.proofs.lemmas.Bool.{true≢false, cases_lt, cases_eq, cases_Bool, lt-ltb, le-ltb, eq-eqb, cond-true, cond-false}
@@ -210,3 +212,22 @@ number_same file u at n p e =
 -- the bytes of a slice, each of which fits eight bits
 pub under_bytes : (file : List ℕ) → ((i : ℕ) → get_or file i 0 < 256) → AllBelowBase 256 file
 under_bytes file h = All-from_get_or _ file 0 (λ i _. h i)
+
+-- seven bits a byte
+pub next_scale : (group : ℕ) → 2 ^ (7 * group) * 128 ≡ 2 ^ (7 * (group + 1))
+next_scale group = let e : 7 * (group + 1) ≡ 7 * group + 7 = omega arith in rw e (sym (pow-add 2 (7 * group) 7))
+
+size_is : (f n : ℕ) → 2 ^ (7 * f) ≤ max n 1 → n < 2 ^ (7 * (f + 1)) → length (encode n) ≡ f + 1
+size_is zero n low high = rw (encode_low n high) refl
+size_is (suc f) n low high =
+    let s : suc f ≡ f + 1 = omega arith in
+    let a : 2 ^ (7 * f) * 128 ≤ max n 1 = rw (next_scale f, ← s) low in
+    let b : n < 2 ^ (7 * (f + 1)) * 128 = rw (next_scale (f + 1), ← s) high in
+    rw (encode_high n (omega (arith, pow_pos (7 * f)))) (omega (arith, size_is f (n / 128) (omega arith) (omega arith)))
+
+-- a number whose highest bit is at `top`; that of 0 is taken to be at 0
+pub size_of_top : (n top : ℕ) → 2 ^ top ≤ max n 1 → max n 1 < 2 * 2 ^ top → length (encode n) ≡ top / 7 + 1
+size_of_top n top low high =
+    let a = pow-le-pow_right {n = 2} (omega arith) {i = 7 * (top / 7)} {j = top} (omega arith) in
+    let b = pow-le-pow_right {n = 2} (omega arith) {i = top + 1} {j = 7 * (top / 7 + 1)} (omega arith) in
+    size_is (top / 7) n (omega (arith, a)) (omega (arith, b, pow-add 2 top 1))

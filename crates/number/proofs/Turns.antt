@@ -5,13 +5,13 @@ use Rattle.std.specs.List.{between}
 use Rattle.std.proofs.lemmas.Bool.{true≢false, cases_eq, lt-ltb, cond-true}
 use Rattle.std.proofs.lemmas.Bool.Decides.{nat_tests}
 use Rattle.std.proofs.lemmas.Grind.{common_steps}
-use Rattle.std.proofs.lemmas.Nat.{mul-le, pow-add}
+use Rattle.std.proofs.lemmas.Nat.{mul-le}
 use Rattle.std.proofs.lemmas.List.Edits.{between_none, between_more}
 use Rattle.std.proofs.lemmas.List.{drop_more, drop_all}
 use Rattle.number.specs.declared.NumberCause.{NumberCause}
 use Rattle.number.specs.declared.NumberCause.TheVariants.{Ends, Padded, Large}
 use Rattle.number.specs.Numbers.{encode, Decoded, before, last, decode_by, decode, placed, number_at}
-use Rattle.number.proofs.Codec.{cap, cap_least, encode_low, read_low, read_high, last_ok, stood, number_same, under_bytes}
+use Rattle.number.proofs.Codec.{next_scale, cap, cap_least, encode_low, read_low, read_high, last_ok, stood, number_same, under_bytes}
 
 -- what is read at last, where `value` and `used` are of the bytes so far, and the next group counts `scale`
 abbrev pub behind : ℕ → ℕ → ℕ → Decoded → Decoded
@@ -46,9 +46,6 @@ shifted group b few fifth =
     (λ e. rw e (let h = fifth e in omega arith))
     (λ e. omega (arith, mul-le (b % 128) (2 ^ (7 * group)) 127 (2 ^ 21) (omega arith) (pow-le-pow_right {n = 2} (omega arith) {i = 7 * group} {j = 21} (omega arith))))
     (cases_eq group 4)
-
-next_scale : (group : ℕ) → 2 ^ (7 * group) * 128 ≡ 2 ^ (7 * (group + 1))
-next_scale group = let e : 7 * (group + 1) ≡ 7 * group + 7 = omega arith in rw e (sym (pow-add 2 (7 * group) 7))
 
 -- a byte that more bytes follow
 step : (bytes : List ℕ) (group : ℕ) (first : Bool) → group < 4 → group < length bytes → 128 ≤ get_or bytes group 0 → decode_by (4 - group) first (drop group bytes) ≡ before (get_or bytes group 0) (decode_by (4 - (group + 1)) false (drop (group + 1) bytes))

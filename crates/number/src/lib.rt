@@ -67,33 +67,31 @@ fn read_groups(bytes: &[u8]) -> Result<(u32, usize), NumberCause>
 }
 
 // How many bytes `n` takes.
+#[tactic(auto, using(crate::proofs::Codec::size_of_top))]
 pub fn number_size(n: u32) -> usize
     ensures { result ≡ length (encode n) }
 {
-    let mut left = n;
-    let mut size = 1;
-    while left >= 128 {
-        left /= 128;
-        size += 1;
-    }
-    size
+    n.max(1).ilog2() as usize / 7 + 1
 }
 
 // Writes `n` from `at` on and returns the place after it; where there is no room, none, and the buffer is as it was.
+#[tactic(auto, using(crate::proofs::Writes::writings))]
 pub fn write_number(buf: &mut [u8], at: usize, n: u32) -> Option<usize>
     ensures wrote { MatchOption result ((length buf.old < at + length (encode n)) × (buf.new ≡ buf.old)) (λ p. Wrote buf.old at (encode n) p buf.new) }
     ensures rereads { (post : List ℕ) → decode (encode n ++ post) ≡ Ok (n, length (encode n)) }
 {
-    if at > buf.len() || buf.len() - at < number_size(n) {
+    let end = at.checked_add(number_size(n))?;
+    if end > buf.len() {
         return None;
     }
     let mut rest = n;
-    let mut next = at;
-    while rest >= 128 {
-        buf[next] = (rest % 128 + 128) as u8;
+    for byte in buf[at..end].iter_mut() {
+        *byte = if rest < 128 {
+            rest as u8
+        } else {
+            (rest % 128 + 128) as u8
+        };
         rest /= 128;
-        next += 1;
     }
-    buf[next] = rest as u8;
-    Some(next + 1)
+    Some(end)
 }
