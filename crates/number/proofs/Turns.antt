@@ -1,17 +1,16 @@
 -- How reading a number goes from one byte to the next.
-use Rattle.std.proofs.Common.{◌≡◌, ℕ, zero, suc, ◌+◌, ◌-◌, ◌*◌, ◌%◌, ◌^◌, ◌<◌, ◌≤◌, Bool, true, false, eqb, List, length, get_or, drop, Ok, Err, sym, refl, ap, ◌∙◌, ⊎_elim, mul_assoc, mul_comm, mul-add, arith, w8, Fits}
+use Rattle.std.proofs.Common.{◌≡◌, ℕ, zero, suc, ◌+◌, ◌-◌, ◌*◌, ◌%◌, ◌^◌, ◌<◌, ◌≤◌, Bool, true, false, eqb, List, [], ◌∷◌, length, get_or, drop, Ok, Err, sym, refl, ap, ◌∙◌, ⊎_elim, mul_assoc, mul_comm, mul-add, arith, w8, Fits}
 use native.Mathlib.Nat.{pow-le-pow_right}
 use Rattle.std.specs.List.{between}
-use Rattle.std.proofs.lemmas.Bool.{true≢false, cases_eq, lt-ltb, cond-true}
+use Rattle.std.proofs.lemmas.Bool.{cases_eq, lt-ltb, cond-true}
 use Rattle.std.proofs.lemmas.Bool.Decides.{nat_tests}
 use Rattle.std.proofs.lemmas.Grind.{common_steps}
 use Rattle.std.proofs.lemmas.Nat.{mul-le}
-use Rattle.std.proofs.lemmas.List.Edits.{between_none, between_more}
 use Rattle.std.proofs.lemmas.List.{drop_more, drop_all}
 use Rattle.number.specs.declared.NumberCause.{NumberCause}
 use Rattle.number.specs.declared.NumberCause.TheVariants.{Ends, Padded, Large}
 use Rattle.number.specs.Numbers.{encode, Decoded, before, last, decode_by, decode, placed, number_at}
-use Rattle.number.proofs.Codec.{next_scale, cap, cap_least, encode_low, read_low, read_high, last_ok, stood, number_same, under_bytes}
+use Rattle.number.proofs.Codec.{next_scale, cap, cap_least, read_low, read_high, last_ok, got, number_same, under_bytes}
 
 -- what is read at last, where `value` and `used` are of the bytes so far, and the next group counts `scale`
 abbrev pub behind : ℕ → ℕ → ℕ → Decoded → Decoded
@@ -102,20 +101,21 @@ reading_large bytes group value r in' four h =
     fails bytes group value Large r (rw (drop_more bytes group 0 in', f) (cond-true _ _ _ (lt-ltb 15 (get_or bytes group 0) h)))
 
 -- a number of one byte
-pub first_is : (file : List ℕ) (at n : ℕ) → n ≡ get_or file at 0 → at < length file → n < 128 → Ok (n, at + 1) ≡ number_at file at
-unfolding number_at decode
-first_is file at n e in' low = rw (drop_more file at 0 in', ← e) (sym (ap (placed at) (read_low 4 n true (drop (at + 1) file) low (omega arith) ∙ last_ok true n (λ f. absurd (true≢false f)))))
-
-pub first_rewrites : (file : List ℕ) (at n : ℕ) → n ≡ get_or file at 0 → at < length file → n < 128 → encode n ≡ between at (at + 1) file
-first_rewrites file at n e in' low = encode_low n low ∙ rw (between_more file at at 0 (omega arith) in', between_none, ← e)
+pub decode_first : (bytes : List ℕ) → 0 < length bytes → get_or bytes 0 0 < 128 → Ok (get_or bytes 0 0, 1) ≡ decode bytes
+unfolding decode
+decode_first [] some low = absurd (omega arith)
+decode_first (b ∷ bs) some low = sym (read_low 4 b true bs low (omega arith) ∙ last_ok true b (λ e. cc))
 
 -- what a number at the front of the bytes from `at` on says of the file
 pub number_is : (file bytes : List ℕ) (at n size : ℕ) → bytes ≡ drop at file → Ok (n, size) ≡ decode bytes → Ok (n, at + size) ≡ number_at file at
 unfolding number_at
 number_is file bytes at n size from e = rw from at (ap (placed at) e)
 
-pub number_within : (file bytes : List ℕ) (at n size : ℕ) → bytes ≡ drop at file → Ok (n, size) ≡ decode bytes → (at < at + size) × (at + size ≤ length file)
-number_within file bytes at n size from e = let s = stood file at n (at + size) (sym (number_is file bytes at n size from e)) in (s.after, s.within)
+pub number_after : (bytes : List ℕ) (n size : ℕ) → Ok (n, size) ≡ decode bytes → 0 < size
+number_after bytes n size e = (got bytes n size (sym e)).least
+
+pub number_within : (bytes : List ℕ) (n size : ℕ) → Ok (n, size) ≡ decode bytes → size ≤ length bytes
+number_within bytes n size e = (got bytes n size (sym e)).within
 
 pub number_rewrites : (file : List ℕ) (at n size : ℕ) → ((i : ℕ) → Fits w8 (get_or file i 0)) → Ok (n, size) ≡ decode (drop at file) → encode n ≡ between at (at + size) file
 number_rewrites file at n size typed e = (number_same file (under_bytes file (λ i. omega (arith, typed i))) at n (at + size) (sym (number_is file _ at n size refl e))).0
@@ -128,4 +128,4 @@ faults file bytes at e from h = rw from at (ap (placed at) h)
 pub ruleset readings = (reading_none, reading_last, reading_ends, reading_padded, reading_large)
 
 -- what `read_number` asks for of the bytes from a place on
-pub ruleset placings = (common_steps, drop_all, first_is, first_rewrites, number_is, number_rewrites, faults)
+pub ruleset placings = (common_steps, drop_all, decode_first, number_is, number_after, number_within, number_rewrites, faults)

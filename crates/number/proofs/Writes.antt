@@ -39,4 +39,4 @@ written was bytes room at end next rest w full long e within =
     }
 
 -- what `write_number` asks for
-pub ruleset writings = (read_undoes_write, encode_some)
+pub ruleset writings = (read_undoes_write, encode_some, written)

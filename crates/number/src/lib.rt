@@ -32,13 +32,14 @@ pub fn read_number(file: &[u8], at: usize) -> Result<(u32, usize), NumberFault>
     ensures within { IfOk result (λ p. (at < p.1) × (p.1 ≤ length file.now)) }
     ensures rewrites { IfOk result (λ p. encode p.0 ≡ between at p.1 file.now) }
 {
+    let bytes = file.get(at..).unwrap_or(&[]);
     // most numbers have one byte
-    if let Some(&first) = file.get(at)
-        && first < 128
+    if let [first, ..] = bytes
+        && *first < 128
     {
-        return Ok((u32::from(first), at + 1));
+        return Ok((u32::from(*first), at + 1));
     }
-    match read_groups(file.get(at..).unwrap_or(&[])) {
+    match read_groups(bytes) {
         Ok((n, size)) => Ok((n, at + size)),
         Err(cause) => Err(NumberFault { cause, place: at }),
     }
