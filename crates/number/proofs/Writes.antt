@@ -1,5 +1,5 @@
 -- How writing a number goes from one byte to the next.
-use Rattle.std.proofs.Common.{◌≡◌, ℕ, ◌+◌, ◌-◌, ◌/◌, ◌%◌, ◌<◌, ◌≤◌, ◌⊎◌, List, [], ◌∷◌, length, get_or, take, drop, sym, ap, ◌∙◌, ⊎_elim, arith, length-drop}
+use Rattle.std.proofs.Common.{◌≡◌, ℕ, ◌+◌, ◌/◌, ◌%◌, ◌<◌, ◌≤◌, ◌⊎◌, List, [], ◌∷◌, length, get_or, take, drop, sym, ap, ◌∙◌, ⊎_elim, arith, length-drop}
 use Rattle.std.proofs.Math.ListN.{set}
 use Rattle.std.proofs.lemmas.Grind.{common_steps}
 use Rattle.std.proofs.lemmas.List.{drop_more, take_all}
@@ -26,17 +26,16 @@ writing_more bytes room next rest byte w in' in'' either =
 put_mid_sets : (was bytes : List ℕ) (at : ℕ) → at + length bytes ≤ length was → put_mid at (length bytes) was bytes ≡ sets was at bytes
 put_mid_sets was bytes at h = rw sets-eq (grind (arith, common_steps))
 
--- all of them are written
-pub written : (was bytes room : List ℕ) (at end next rest : ℕ) → Writing bytes room next rest → length room ≤ next → length room ≡ end - at → end ≡ at + length bytes → end ≤ length was → Wrote was at bytes end (put_mid at (end - at) was room)
-written was bytes room at end next rest w full long e within =
+-- all of them are written, into the part of the buffer that `room` was
+pub written : (was bytes room : List ℕ) (at start count end next rest : ℕ) → Writing bytes room next rest → length room ≤ next → length room ≡ count → start ≡ at → count ≡ length bytes → end ≡ at + count → end ≤ length was → Wrote was at bytes end (put_mid start count was room)
+written was bytes room at start count end next rest w full long from all e within =
     let same : room ≡ bytes = sym (take_all next room full) ∙ w.done ∙ take_all next bytes (omega arith) in
-    let k : end - at ≡ length bytes = omega arith in
     let fits : at + length bytes ≤ length was = omega arith in
     record {
-      ends = e;
+      ends = omega arith;
       within = fits;
-      left = rw (same, k) (put_mid_sets was bytes at fits);
+      left = rw (same, from, all) (put_mid_sets was bytes at fits);
     }
 
--- what `write_number` asks for
-pub ruleset writings = (read_undoes_write, encode_some, written)
+-- what `write_number` asks for besides
+pub ruleset writings = (read_undoes_write, encode_some)

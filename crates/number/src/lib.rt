@@ -67,7 +67,7 @@ fn read_groups(bytes: &[u8]) -> Result<(u32, usize), NumberCause>
     Err(NumberCause::Ends)
 }
 
-// How many bytes `n` takes.
+// How many bytes `n` takes: one for each seven bits up to the highest that is set, and one for 0.
 #[tactic(auto, using(crate::proofs::Codec::size_of_top))]
 pub fn number_size(n: u32) -> usize
     ensures { result ≡ length (encode n) }
