@@ -1,8 +1,10 @@
 -- The bytes of a number, and the laws of reading and writing one.
-use Rattle.std.proofs.Common.{◌≡◌, ℕ, zero, suc, ◌+◌, ◌-◌, ◌*◌, ◌/◌, ◌%◌, ◌^◌, ◌<◌, ◌≤◌, Bool, true, false, not, ◌&&◌, eqb, List, [], ◌∷◌, ◌++◌, length, get_or, take, drop, Ok, Err, Result, sym, refl, ap, ◌∙◌, ⊎_elim, add-one, arith, length-drop}
+use Rattle.std.proofs.Common.{◌≡◌, ℕ, zero, suc, ◌+◌, ◌-◌, ◌*◌, ◌/◌, ◌%◌, ◌^◌, ◌<◌, ◌≤◌, max, Bool, true, false, not, ◌&&◌, eqb, List, [], ◌∷◌, ◌++◌, length, get_or, take, drop, Ok, Err, Result, sym, refl, ap, ◌∙◌, ⊎_elim, add-one, arith, length-drop}
+use native.Mathlib.Nat.{pow-le-pow_right}
+use Rattle.std.proofs.lemmas.Nat.{pow-add, pow_pos}
 use Rattle.std.specs.Int.Digits.{AllBelowBase}
 use Rattle.std.specs.List.{between}
-use Rattle.std.proofs.lemmas.Bool.{true≢false, cases_lt, cases_eq, cases_Bool, lt-ltb, le-ltb, eq-eqb, cond-true, cond-false}
+use Rattle.std.proofs.lemmas.Bool.{cases_lt, cases_eq, cases_Bool, lt-ltb, le-ltb, eq-eqb, cond-true, cond-false}
 use Rattle.std.proofs.lemmas.Bool.Decides.{nat_tests}
 use Rattle.std.proofs.ByRecursion.{All-take, All-drop, All-from_get_or}
 use Rattle.number.specs.declared.NumberCause.TheVariants.{Padded, Large}
@@ -66,7 +68,7 @@ reads (suc f) n first rest p h =
 
 pub read_undoes_write : ReadUndoesWrite
 unfolding decode
-read_undoes_write n rest h = reads 4 n true rest h (λ e. absurd (true≢false e))
+read_undoes_write n rest h = reads 4 n true rest h (λ e. cc)
 
 -- what a number that was read says of its bytes
 pub record Took (f : ℕ) (first : Bool) (bs : List ℕ) (n k : ℕ) : Type 0 where
@@ -77,17 +79,8 @@ pub record Took (f : ℕ) (first : Bool) (bs : List ℕ) (n k : ℕ) : Type 0 wh
   pub least : 0 < k
   pub same : AllBelowBase 256 (take k bs) → encode n ≡ take k bs
 
-value : {E : Type 0} → Result (ℕ × ℕ) E → ℕ
-value (Ok p) = p.0
-value (Err e) = 0
-
-used : {E : Type 0} → Result (ℕ × ℕ) E → ℕ
-used (Ok p) = p.1
-used (Err e) = 0
-
-ok_parts : {E : Type 0} (a b c d : ℕ) → ◌≡◌ {A = Result (ℕ × ℕ) E} (Ok (a, b)) (Ok (c, d)) → (a ≡ c) × (b ≡ d)
-unfolding value used
-ok_parts a b c d e = (ap value e, ap used e)
+ok_parts : {E : Type 0} (a b c d : ℕ) (r : Result (ℕ × ℕ) E) → r ≡ Ok (a, b) → r ≡ Ok (c, d) → (a ≡ c) × (b ≡ d)
+ok_parts a b c d r e f = let p : ◌≡◌ {A = ℕ × ℕ} (a, b) (c, d) = cc in (ap (λ (q : ℕ × ℕ). q.0) p, ap (λ (q : ℕ × ℕ). q.1) p)
 
 pub cap_least : (f : ℕ) → 16 ≤ cap f
 cap_least zero = omega arith
@@ -96,14 +89,12 @@ cap_least (suc f) = omega (arith, cap_least f)
 last_is : (f : ℕ) (first : Bool) (b : ℕ) (bs : List ℕ) (n k : ℕ) → b < 128 → b < cap f → last first b ≡ Ok (n, k) → Took f first (b ∷ bs) n k
 last_is f first b bs n k low fits e =
     ⊎_elim
-    (λ t. let z : ◌≡◌ {A = ℕ} 0 1 = let s : last first b ≡ Err Padded = cond-true _ _ _ t in cc in absurd (omega arith))
+    (λ t. let s : last first b ≡ Err Padded = cond-true _ _ _ t in cc)
     (λ t.
     let s : last first b ≡ Ok (b, 1) = cond-false _ _ _ t in
-    let both = ok_parts n k b 1 (sym e ∙ s) in
-    let p : n ≡ b = both.0 in
-    let q : k ≡ 1 = both.1 in
+    let (p, q) = ok_parts n k b 1 _ e s in
     record {
-      some = λ g. ⊎_elim (λ z. let w : (eqb b 0 && not first) ≡ true = rw (eq-eqb b 0 z, g) in absurd (true≢false (sym w ∙ t))) (λ z. omega arith) (cases_eq b 0);
+      some = λ g. ⊎_elim (λ z. let w : (eqb b 0 && not first) ≡ true = rw (eq-eqb b 0 z, g) in cc) (λ z. omega arith) (cases_eq b 0);
       small = omega arith;
       within = rw q (omega arith);
       few = omega arith;
@@ -113,8 +104,8 @@ last_is f first b bs n k low fits e =
     (cases_Bool (eqb b 0 && not first))
 
 before-is : (b n k : ℕ) (r : Decoded) → before b r ≡ Ok (n, k) → (m : ℕ) × (j : ℕ) × (r ≡ Ok (m, j)) × (n ≡ b % 128 + 128 * m) × (k ≡ j + 1)
-before-is b n k (Ok p) e = (p.0, p.1, refl, sym (ok_parts _ _ _ _ e).0, sym (ok_parts _ _ _ _ e).1)
-before-is b n k (Err x) e = let z : ◌≡◌ {A = ℕ} 0 1 = cc in absurd (omega arith)
+before-is b n k (Ok p) e = let (x, y) = ok_parts n k _ _ _ e refl in (p.0, p.1, refl, x, y)
+before-is b n k (Err x) e = cc
 
 more_is : (f b n k m j : ℕ) (first : Bool) (bs : List ℕ) → 128 ≤ b → n ≡ b % 128 + 128 * m → k ≡ j + 1 → Took f false bs m j → Took (suc f) first (b ∷ bs) n k
 more_is f b n k m j first bs h p q t =
@@ -134,11 +125,11 @@ more_is f b n k m j first bs h p q t =
 
 pub took : (f : ℕ) (first : Bool) (bs : List ℕ) (n k : ℕ) → decode_by f first bs ≡ Ok (n, k) → Took f first bs n k
 unfolding decode_by
-took zero first [] n k e = let z : ◌≡◌ {A = ℕ} 0 1 = cc in absurd (omega arith)
-took (suc f) first [] n k e = let z : ◌≡◌ {A = ℕ} 0 1 = cc in absurd (omega arith)
+took zero first [] n k e = cc
+took (suc f) first [] n k e = cc
 took zero first (b ∷ bs) n k e =
     ⊎_elim
-    (λ h. let s : decode_by zero first (b ∷ bs) ≡ Err Large = cond-true _ _ _ (lt-ltb 15 b h) in let z : ◌≡◌ {A = ℕ} 0 1 = cc (sym s ∙ e) in absurd (omega arith))
+    (λ h. let s : decode_by zero first (b ∷ bs) ≡ Err Large = cond-true _ _ _ (lt-ltb 15 b h) in cc)
     (λ l. last_is zero first b bs n k (omega arith) (omega arith) (sym (cond-false _ _ _ (le-ltb 15 b l)) ∙ e))
     (cases_lt 15 b)
 took (suc f) first (b ∷ bs) n k e =
@@ -185,8 +176,8 @@ pub record Stood (file : List ℕ) (at n p : ℕ) : Type 0 where
   pub same : AllBelowBase 256 (between at p file) → encode n ≡ between at p file
 
 placed_is : (at n p : ℕ) (r : Decoded) → placed at r ≡ Ok (n, p) → (k : ℕ) × (r ≡ Ok (n, k)) × (p ≡ at + k)
-placed_is at n p (Ok (m, k)) e = let both = ok_parts m (at + k) n p e in (k, ap (λ x. Ok (x, k)) both.0, sym both.1)
-placed_is at n p (Err x) e = let z : ◌≡◌ {A = ℕ} 0 1 = cc in absurd (omega arith)
+placed_is at n p (Ok (m, k)) e = let (x, y) = ok_parts m (at + k) n p _ refl e in (k, ap (λ m. Ok (m, k)) x, sym y)
+placed_is at n p (Err x) e = cc
 
 pub stood : (file : List ℕ) (at n p : ℕ) → number_at file at ≡ Ok (n, p) → Stood file at n p
 unfolding number_at
@@ -210,3 +201,22 @@ number_same file u at n p e =
 -- the bytes of a slice, each of which fits eight bits
 pub under_bytes : (file : List ℕ) → ((i : ℕ) → get_or file i 0 < 256) → AllBelowBase 256 file
 under_bytes file h = All-from_get_or _ file 0 (λ i _. h i)
+
+-- seven bits a byte
+pub next_scale : (group : ℕ) → 2 ^ (7 * group) * 128 ≡ 2 ^ (7 * (group + 1))
+next_scale group = let e : 7 * (group + 1) ≡ 7 * group + 7 = omega arith in rw e (sym (pow-add 2 (7 * group) 7))
+
+size_is : (f n : ℕ) → 2 ^ (7 * f) ≤ max n 1 → n < 2 ^ (7 * (f + 1)) → length (encode n) ≡ f + 1
+size_is zero n low high = rw (encode_low n high) refl
+size_is (suc f) n low high =
+    let s : suc f ≡ f + 1 = omega arith in
+    let a : 2 ^ (7 * f) * 128 ≤ max n 1 = rw (next_scale f, ← s) low in
+    let b : n < 2 ^ (7 * (f + 1)) * 128 = rw (next_scale (f + 1), ← s) high in
+    rw (encode_high n (omega (arith, pow_pos (7 * f)))) (omega (arith, size_is f (n / 128) (omega arith) (omega arith)))
+
+-- a number whose highest bit is at `top`; that of 0 is taken to be at 0
+pub size_of_top : (n top : ℕ) → 2 ^ top ≤ max n 1 → max n 1 < 2 * 2 ^ top → length (encode n) ≡ top / 7 + 1
+size_of_top n top low high =
+    let a = pow-le-pow_right {n = 2} (omega arith) {i = 7 * (top / 7)} {j = top} (omega arith) in
+    let b = pow-le-pow_right {n = 2} (omega arith) {i = top + 1} {j = 7 * (top / 7 + 1)} (omega arith) in
+    size_is (top / 7) n (omega (arith, a)) (omega (arith, b, pow-add 2 top 1))

@@ -1,2 +1,3 @@
 pub mod Codec
 pub mod Turns
+pub mod Writes

@@ -26,91 +26,73 @@ pub struct NumberFault {
 }
 
 // The number that begins at `at`, and the place after it.
+#[tactic(auto, using(crate::proofs::Turns::placings))]
 pub fn read_number(file: &[u8], at: usize) -> Result<(u32, usize), NumberFault>
     ensures is { result ≡ number_at file.now at }
     ensures within { IfOk result (λ p. (at < p.1) × (p.1 ≤ length file.now)) }
     ensures rewrites { IfOk result (λ p. encode p.0 ≡ between at p.1 file.now) }
 {
-    if at >= file.len() {
-        return Err(NumberFault {
-            cause: NumberCause::Ends,
-            place: at,
-        });
+    let bytes = file.get(at..).unwrap_or(&[]);
+    // most numbers have one byte
+    if let [first, ..] = bytes
+        && *first < 128
+    {
+        return Ok((u32::from(*first), at + 1));
     }
-    let first = file[at];
-    if first < 128 {
-        return Ok((first as u32, at + 1));
+    match read_groups(bytes) {
+        Ok((n, size)) => Ok((n, at + size)),
+        Err(cause) => Err(NumberFault { cause, place: at }),
     }
-    read_groups(file, at)
 }
 
-// A number of several groups, whose first byte stands at `at`.
-fn read_groups(file: &[u8], at: usize) -> Result<(u32, usize), NumberFault>
-    ensures is { result ≡ number_at file.now at }
-    ensures within { IfOk result (λ p. (at < p.1) × (p.1 ≤ length file.now)) }
-    ensures rewrites { IfOk result (λ p. encode p.0 ≡ between at p.1 file.now) }
+// The number at the front of `bytes`, and how many of them it takes.
+#[tactic(auto, using(crate::proofs::Turns::readings))]
+fn read_groups(bytes: &[u8]) -> Result<(u32, usize), NumberCause>
+    ensures { result ≡ decode bytes.now }
 {
-    let mut value: u32 = 0;
-    let mut scale: u32 = 1;
-    let mut place = at;
-    for group in 0..5u8 {
-        if place >= file.len() {
-            return Err(NumberFault {
-                cause: NumberCause::Ends,
-                place: at,
-            });
-        }
-        let byte = file[place];
+    let mut value = 0;
+    // a fifth byte of at most 15 is the last, so the loop stops there
+    for (group, &byte) in bytes.iter().enumerate() {
         if group == 4 && byte > 15 {
-            break;
+            return Err(NumberCause::Large);
         }
         if byte == 0 && group > 0 {
-            return Err(NumberFault {
-                cause: NumberCause::Padded,
-                place: at,
-            });
+            return Err(NumberCause::Padded);
         }
-        value += (byte % 128) as u32 * scale;
-        place += 1;
+        value += u32::from(byte % 128) << (7 * group);
         if byte < 128 {
-            return Ok((value, place));
+            return Ok((value, group + 1));
         }
-        scale *= 128;
     }
-    Err(NumberFault {
-        cause: NumberCause::Large,
-        place: at,
-    })
+    Err(NumberCause::Ends)
 }
 
-// How many bytes `n` takes.
+// How many bytes `n` takes: one for each seven bits up to the highest that is set, and one for 0.
+#[tactic(auto, using(crate::proofs::Codec::size_of_top))]
 pub fn number_size(n: u32) -> usize
     ensures { result ≡ length (encode n) }
 {
-    let mut left = n;
-    let mut size = 1;
-    while left >= 128 {
-        left /= 128;
-        size += 1;
-    }
-    size
+    n.max(1).ilog2() as usize / 7 + 1
 }
 
 // Writes `n` from `at` on and returns the place after it; where there is no room, none, and the buffer is as it was.
+#[tactic(auto, using(crate::proofs::Writes::writings))]
 pub fn write_number(buf: &mut [u8], at: usize, n: u32) -> Option<usize>
     ensures wrote { MatchOption result ((length buf.old < at + length (encode n)) × (buf.new ≡ buf.old)) (λ p. Wrote buf.old at (encode n) p buf.new) }
     ensures rereads { (post : List ℕ) → decode (encode n ++ post) ≡ Ok (n, length (encode n)) }
 {
-    if at > buf.len() || buf.len() - at < number_size(n) {
+    let end = at.checked_add(number_size(n))?;
+    if end > buf.len() {
         return None;
     }
     let mut rest = n;
-    let mut next = at;
-    while rest >= 128 {
-        buf[next] = (rest % 128 + 128) as u8;
+    for byte in buf[at..end].iter_mut() {
+        *byte = if rest < 128 {
+            rest as u8
+        } else {
+            (rest % 128 + 128) as u8
+        };
         rest /= 128;
-        next += 1;
     }
-    buf[next] = rest as u8;
-    Some(next + 1)
+    Some(end)
 }
