@@ -10,3 +10,4 @@ pub mod Sequence
 pub mod Ranged
 pub mod Handed
 pub mod Mapped
+pub mod Opened

@@ -1,5 +1,5 @@
 -- Parts of a file and their places.
-use Rattle.std.proofs.Common.{◌≡◌, ℕ, ◌+◌, ◌-◌, ◌<◌, ◌≤◌, List, length, drop, sym, ap, ◌∙◌, arith, length-append, length-drop, length-take-le}
+use Rattle.std.proofs.Common.{◌≡◌, ℕ, ◌+◌, ◌-◌, ◌<◌, ◌≤◌, List, length, drop, ap, ◌∙◌, arith, length-append, length-drop, length-take-le}
 use Rattle.std.specs.List.{between}
 use Rattle.number.specs.Numbers.{encode}
 use Rattle.entryfile.specs.Items.{reference_bytes}

@@ -6,13 +6,13 @@ use Rattle.market.specs.declared.family.Family.{Family}
 use Rattle.market.specs.declared.month.Month.{Month}
 use Rattle.entryfile.specs.declared.fault.EntryFault.{EntryFault}
 use Rattle.entryfile.specs.Forms.{Form, Got}
+use Rattle.entryfile.specs.Lists.{month_pair}
 use Rattle.entryfile.specs.Layout.{version_form, opening_form}
 use Rattle.entryfile.specs.Items.{Item, entry_at, item_bytes, numbers_bytes}
 
 -- days and factor, month by month
 abbrev pub month_numbers : List Month → List ℕ
-month_numbers [] = []
-month_numbers (m ∷ ms) = m.days ∷ m.factor ∷ month_numbers ms
+month_numbers ms = flat_map month_pair ms
 
 -- from the number of zones on
 abbrev pub zone_numbers : Terms → List ℕ

@@ -1,6 +1,6 @@
 -- The layout of an entry file: the fields of the opening and of each entry, in the order of the file, with the range
 -- of each.
-use Rattle.std.specs.Prelude.{ℕ, zero, suc, Bool, cond, List, ◌==◌}
+use Rattle.std.specs.Prelude.{ℕ, zero, suc, Bool, cond, List, [], ◌∷◌, ◌==◌}
 use Rattle.market.specs.Ranges.{within, limit, largest}
 use Rattle.market.specs.Kinds.{capability_fits}
 use Rattle.market.specs.Families.{is_family, figure_count}
@@ -16,9 +16,17 @@ number test rest = field OutOfRange test rest
 abbrev pub version_form : Form → Form
 version_form rest = field Unknown (within 1 1) (λ _. rest)
 
+-- numbers one after another, each in its range
+abbrev pub row_form : List (ℕ → Bool) → Form → Form
+row_form [] rest = rest
+row_form (test ∷ tests) rest = number test (λ _. row_form tests rest)
+
 -- business days and factor of a month
+abbrev pub month_ranges : List (ℕ → Bool)
+month_ranges = within 1 23 ∷ within 1 100 ∷ []
+
 abbrev pub month_form : Form → Form
-month_form rest = number (within 1 23) (λ days. number (within 1 100) (λ factor. rest))
+month_form rest = row_form month_ranges rest
 
 -- so many items, one after another
 abbrev pub items_form : (Form → Form) → ℕ → Form → Form
@@ -29,8 +37,11 @@ abbrev pub months_form : ℕ → Form → Form
 months_form k rest = items_form month_form k rest
 
 -- a price for each zone
+abbrev pub price_ranges : List (ℕ → Bool)
+price_ranges = within 0 limit ∷ []
+
 abbrev pub price_form : Form → Form
-price_form rest = number (within 0 limit) (λ _. rest)
+price_form rest = row_form price_ranges rest
 
 abbrev pub prices_form : ℕ → Form → Form
 prices_form k rest = items_form price_form k rest

@@ -8,3 +8,4 @@ pub mod Steps
 pub mod Cursors
 pub mod Numbering
 pub mod Lists
+pub mod Heads

@@ -5,6 +5,7 @@ mod cursor;
 mod entries;
 mod entry;
 mod fault;
+mod head;
 mod list;
 mod numbers;
 mod text;
@@ -15,5 +16,6 @@ pub use entry::{
     TakeOff, Transfer, Turn,
 };
 pub use fault::EntryFault;
+pub use head::{Head, head_at};
 pub use numbers::figures_end;
 pub use text::is_printable;

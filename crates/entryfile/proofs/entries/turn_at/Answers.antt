@@ -1,9 +1,7 @@
-use Rattle.std.proofs.Common.{◌≡◌, Ok, Err, ap, ◌∙◌, arith}
+use Rattle.std.proofs.Common.{Ok, Err, ap, ◌∙◌, arith}
 use Rattle.number.proofs.Codec.{under_bytes}
-use Rattle.entryfile.specs.declared.fault.EntryFault.TheVariants.{Number}
 use Rattle.entryfile.specs.Items.{entry_at}
-use Rattle.entryfile.specs.Views.{turn_view, FiguresStand}
-use Rattle.entryfile.specs.Cursors.{ends_at}
+use Rattle.entryfile.specs.Views.{turn_view}
 use Rattle.entryfile.proofs.Checks.{exit, entry_ends}
 use Rattle.entryfile.proofs.Handed.{handed}
 use Rattle.entryfile.proofs.entries.turn_at.Goals as goal
