@@ -1,7 +1,8 @@
 // The figures of a sheet, hour by hour; hours with the same figures share a line.
 use number::read_number;
 use std::alloc::{AllocError, Global};
-use wording::{Tenths, hours_text};
+use std::io;
+use wording::{Hours, Tenths};
 
 // The figures of one hour, in megawatts, and the place after them.
 fn hour_figures(
@@ -10,48 +11,38 @@ fn hour_figures(
     at: usize,
     width: usize,
 ) -> Result<(String, usize), AllocError> {
-    let mut text = String::new(heap);
+    let mut figures = String::new(heap);
     let mut next = at;
     for _figure in 0..width {
-        let (n, after) = match read_number(bytes, next) {
-            Ok(read) => read,
-            Err(_) => (0, next),
-        };
-        let figure = format!(in heap; " {}", Tenths(n))?;
-        text.push_str(figure.as_str())?;
+        let (figure, after) = read_number(bytes, next).unwrap_or((0, next));
+        write!(figures, " {}", Tenths(figure))?;
         next = after;
     }
-    Ok((text, next))
+    Ok((figures, next))
 }
 
-// Adds a line for hours with the same figures.
-fn push_hours(
-    heap: Global,
-    lines: &mut String,
-    first: u32,
-    last: u32,
-    figures: &str,
-) -> Result<(), AllocError> {
-    let line = hours_text(heap, first, last, figures)?;
-    lines.push_str("    ")?;
-    lines.push_str(line.as_str())?;
-    lines.push_str("\n")
+// A line for hours with the same figures.
+fn print_line(rt: &HostRuntime, first: u32, last: u32, figures: &str) -> io::Result<()> {
+    let hours = Hours {
+        first,
+        last,
+        figures,
+    };
+    println!(rt; "    {hours}")
 }
 
 // All figures of a sheet, by the bytes that hold them and the number of figures an hour.
-pub(crate) fn figure_lines(heap: Global, bytes: &[u8], width: usize) -> Result<String, AllocError> {
-    let mut lines = String::new(heap);
-    let (mut same, mut next) = hour_figures(heap, bytes, 0, width)?;
+pub(crate) fn print_hours(rt: &HostRuntime, bytes: &[u8], width: usize) -> io::Result<()> {
+    let (mut same, mut next) = hour_figures(rt.alloc(), bytes, 0, width)?;
     let mut first = 1;
-    for hour in 2..25 {
-        let (text, after) = hour_figures(heap, bytes, next, width)?;
-        if text.as_str() != same.as_str() {
-            push_hours(heap, &mut lines, first, hour - 1, same.as_str())?;
+    for hour in 2..=24 {
+        let (figures, after) = hour_figures(rt.alloc(), bytes, next, width)?;
+        if figures.as_str() != same.as_str() {
+            print_line(rt, first, hour - 1, same.as_str())?;
             first = hour;
-            same = text;
+            same = figures;
         }
         next = after;
     }
-    push_hours(heap, &mut lines, first, 24, same.as_str())?;
-    Ok(lines)
+    print_line(rt, first, 24, same.as_str())
 }

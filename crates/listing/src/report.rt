@@ -1,11 +1,11 @@
 // The whole report on an entry file, line by line.
-use crate::figures::figure_lines;
+use crate::figures::print_hours;
 use crate::input::whole_input;
-use entryfile::{Entry, Figures, Head, Turn};
+use entryfile::{Entry, Figures, Head};
 use filereader::{Reader, Survey, read_head, read_through};
 use market::{Family, Opening, figures_in_sheet};
 use std::{io, str};
-use wording::{Tenths, fault_text, fields_text, heading_text};
+use wording::{Heading, InWords, Tenths};
 
 // The months of the period.
 fn print_months(rt: &HostRuntime, opening: &Opening) -> io::Result<()> {
@@ -61,27 +61,19 @@ fn print_figures(rt: &HostRuntime, entry: &Entry, families: &[Family]) -> io::Re
     } = *entry
     {
         let count = figures_in_sheet(families, family).unwrap_or(0);
-        let lines = figure_lines(rt.alloc(), bytes, count / 24)?;
         println!(rt; "  figures: {count}, in MW")?;
-        return print!(rt; "{lines}");
+        return print_hours(rt, bytes, count / 24);
     }
     Ok(())
 }
 
-// One entry: count, place, name and sender, then its fields, its figures and its reference.
-fn print_entry(
-    rt: &HostRuntime,
-    count: usize,
-    place: usize,
-    turn: &Turn,
-    families: &[Family],
-) -> io::Result<()> {
-    let heading = heading_text(rt.alloc(), count, place, turn)?;
-    let fields = fields_text(rt.alloc(), &turn.entry)?;
+// One entry: its heading, then its fields, its figures and its reference.
+fn print_entry(rt: &HostRuntime, heading: Heading<'_>, families: &[Family]) -> io::Result<()> {
+    let entry = &heading.turn.entry;
     println!(rt; "{heading}")?;
-    println!(rt; "  {fields}")?;
-    print_figures(rt, &turn.entry, families)?;
-    print_reference(rt, turn.entry.reference())
+    println!(rt; "  {}", InWords(entry))?;
+    print_figures(rt, entry, families)?;
+    print_reference(rt, entry.reference())
 }
 
 // What ended the reading, the end of the file or a fault in the entry that begins at a place, and how many entries were
@@ -90,8 +82,8 @@ fn print_end(rt: &HostRuntime, place: usize, survey: Survey) -> io::Result<()> {
     let entries = survey.entries;
     match survey.fault {
         Some(fault) => {
-            let text = fault_text(rt.alloc(), fault)?;
-            println!(rt; "FAULT. {text} The entry itself begins at byte {place}.")?;
+            let fault = InWords(fault);
+            println!(rt; "FAULT. {fault} The entry itself begins at byte {place}.")?;
         }
         None => println!(rt; "No fault was found.")?,
     }
@@ -106,15 +98,17 @@ fn print_entries<'a>(
     head: Head,
 ) -> io::Result<usize> {
     let mut reader = Reader::new(file, families, head);
-    for _turn in 0..file.len() {
-        let place = reader.place();
-        match reader.next_entry() {
-            Ok(Some(turn)) => print_entry(rt, reader.entries(), place, &turn, families)?,
-            Ok(None) => break,
-            Err(_) => break,
-        }
+    let mut place = reader.place();
+    while let Ok(Some(turn)) = reader.next_entry() {
+        let heading = Heading {
+            count: reader.entries(),
+            place,
+            turn: &turn,
+        };
+        print_entry(rt, heading, families)?;
+        place = reader.place();
     }
-    Ok(reader.place())
+    Ok(place)
 }
 
 // The report on a file of at most 65,536 bytes.
@@ -128,8 +122,7 @@ pub fn inspect<'a>(rt: &HostRuntime, file: &'a [u8], families: &'a [Family]) -> 
             print_end(rt, place, read_through(file, families, head))
         }
         Err(fault) => {
-            let text = fault_text(rt.alloc(), fault)?;
-            println!(rt; "FAULT. {text}")?;
+            println!(rt; "FAULT. {}", InWords(fault))?;
             println!(rt; "Entries read whole: 0")
         }
     }

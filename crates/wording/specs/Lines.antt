@@ -1,5 +1,5 @@
 -- The lines of a listing.
-use Rattle.std.specs.Prelude.{ℕ, cond, List, ◌++◌, codes, decimal, ◌==◌}
+use Rattle.std.specs.Prelude.{ℕ, cond, List, [], ◌++◌, codes, decimal, ◌==◌}
 use Rattle.market.specs.Kinds.{kind_number, mark_number}
 use Rattle.market.specs.Refusals.{refusal, layer_number}
 use Rattle.market.specs.declared.kind.Kind.{Kind}
@@ -65,6 +65,12 @@ fields_text (DayEnd t) = plain_text
 fields_text (Test award delivered t) = test_text award delivered
 fields_text (Marking award sort t) = mark_text award sort
 fields_text (Closing t) = plain_text
+
+-- the fields of an entry that says who holds an award, an award or a lodging; no text for another entry
+abbrev pub holding_fields : Entry → List ℕ
+holding_fields (Award holder zone kind quantity icap capability t) = award_text (holding_text holder zone) (kind_text kind) quantity icap capability
+holding_fields (Lodge award holder zone kind quantity capability t) = lodge_text award (holding_text holder zone) (kind_text kind) quantity capability
+holding_fields e = []
 
 -- the entry's count, the byte where it begins, its name and its sender
 abbrev pub heading_text : ℕ → ℕ → Turn → List ℕ

@@ -1,8 +1,8 @@
-// The words in which a listing tells of entries and faults. What each function writes is pinned by its contract.
+// The words in which a listing tells of entries and faults. What each value prints is pinned by its `output`.
 #![tactic(auto)]
 
 mod lines;
 mod words;
 
-pub use lines::{fault_text, fields_text, heading_text, hours_text};
+pub use lines::{Heading, Hours, InWords};
 pub use words::{Megawatts, Tenths};

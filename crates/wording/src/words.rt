@@ -28,9 +28,7 @@ impl fmt::Display for Megawatts {
     ghost output = { λ n. Some (megawatts n.0) };
 
     fn fmt<W: fmt::Write>(&self, f: &mut fmt::Formatter<W>) -> fmt::Result {
-        let whole = self.0 / 10;
-        let tenth = self.0 % 10;
-        write!(f, "{whole}.{tenth} MW")
+        write!(f, "{} MW", Tenths(self.0))
     }
 }
 

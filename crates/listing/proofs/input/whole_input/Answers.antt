@@ -1,9 +1,6 @@
 use Rattle.std.proofs.Common.{arith}
-use Rattle.std.proofs.lemmas.Result.{IfOk-from_err}
 use Rattle.listing.proofs.input.whole_input.Goals as goal
 
-pub returns-in_err-got : goal.returns-in_err-got
-returns-in_err-got c = IfOk-from_err _ _ c.from_residual-in_err-got.ensures.0
-
+-- by the length that was tested, so that another limit is refused by its number
 pub returns : goal.returns
-returns c = omega (arith, c.truncate.ensures.len)
+returns c = omega (arith, c.len.ensures)
