@@ -37,6 +37,11 @@ abbrev pub head_answer : Result Head Fault → Result (List ℕ × ℕ) Fault
 head_answer (Ok h) = Ok (head_numbers (terms_of h.opening), h.end)
 head_answer (Err f) = Err f
 
+-- a reader that was opened, by what it has read and where it stands
+abbrev pub opened : Result Reader Fault → Result (List ℕ × ℕ) Fault
+opened (Ok r) = Ok (head_numbers (terms_of r.opening), r.place)
+opened (Err f) = Err f
+
 -- a new reader has read no entry
 abbrev pub StandsBehind : List ℕ → List Family → Head → Reader → Type 0
 StandsBehind file families h r = (file_of r ≡ file) × (families_of r ≡ families) × (r.opening ≡ h.opening) × (position_of r ≡ position (min h.end (length file)) 0)

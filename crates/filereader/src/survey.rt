@@ -1,6 +1,6 @@
 // Reading a whole file.
 ghost use Rattle.std.specs.Prelude.{◌≡◌, ℕ};
-ghost use Rattle.filereader.specs.Surveys.{survey_after, listing_of, WholeFileWrites, WholeFileReads};
+ghost use Rattle.filereader.specs.Surveys.{told, left_of, survey_after, listing_of, WholeFileWrites, WholeFileReads};
 
 use crate::reader::Reader;
 use entryfile::Head;
@@ -20,27 +20,17 @@ pub fn read_through<'a>(file: &'a [u8], families: &'a [Family], head: Head) -> S
     ensures reads { WholeFileReads families.now head }
 {
     let mut reader = Reader::new(file, families, head);
-    for _turn in 0..file.len() {
-        match reader.next_entry() {
-            Ok(next) => match next {
-                Some(_) => {}
-                None => {
-                    return Survey {
-                        entries: reader.entries(),
-                        fault: None,
-                    };
-                }
-            },
-            Err(fault) => {
-                return Survey {
-                    entries: reader.entries(),
-                    fault: Some(fault),
-                };
-            }
-        }
-    }
+    let fault = read_on(&mut reader).err();
     Survey {
         entries: reader.entries(),
-        fault: None,
+        fault,
     }
+}
+
+// Takes all entries up to the end of the file, or the first fault.
+fn read_on(reader: &mut Reader<'_>) -> Result<(), Fault>
+    ensures { told result reader.new ≡ left_of reader.old }
+{
+    while let Some(_turn) = reader.next_entry()? {}
+    Ok(())
 }
