@@ -3,7 +3,7 @@
 
 #[cfg(test)]
 mod tests {
-    use entryfile::{Entry, Figures, Turn};
+    use entryfile::{Entry, Figures, NewAward, Sheet, Turn};
     use entrywriter::{write_entry, write_opening};
     use market::{Cause, Family, Fault, Kind, Month, Opening};
     use std::test::Fail;
@@ -29,7 +29,7 @@ mod tests {
     }
 
     fn award(reference: &[u8]) -> Turn<'_> {
-        let entry = Entry::Award {
+        let entry = Entry::Award(NewAward {
             holder: 7,
             zone: 1,
             kind: Kind::Generation,
@@ -37,7 +37,7 @@ mod tests {
             cleared_icap: 120,
             capability: 0,
             reference,
-        };
+        });
         Turn { sender: 0, entry }
     }
 
@@ -102,12 +102,12 @@ mod tests {
     fn listed_figures_are_written_as_bytes(rt: HostRuntime) -> Result<(), Fail> {
         let mut buf = [9u8; 160];
         let figures = [300u32; 72];
-        let entry = Entry::Sheet {
+        let entry = Entry::Sheet(Sheet {
             award: 1,
             family: 1,
             figures: Figures::Listed(&figures),
             reference: b"",
-        };
+        });
         assert_eq!(rt;
             write_entry(&mut buf, &opening()?, &FAMILIES, Turn { sender: 7, entry })?,
             149
@@ -127,12 +127,12 @@ mod tests {
     fn too_few_figures_are_cause_5(rt: HostRuntime) -> Result<(), Fail> {
         let mut buf = [9u8; 160];
         let figures = [300u32; 71];
-        let entry = Entry::Sheet {
+        let entry = Entry::Sheet(Sheet {
             award: 1,
             family: 1,
             figures: Figures::Listed(&figures),
             reference: b"",
-        };
+        });
         let refused = Err(Fault {
             cause: Cause::OutOfRange,
             entry: 0,

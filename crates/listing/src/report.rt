@@ -1,9 +1,9 @@
 // The whole report on an entry file, line by line.
 use crate::figures::print_hours;
 use crate::input::whole_input;
-use entryfile::{Entry, Figures, Head};
+use entryfile::{Entry, Figures, Head, Sheet};
 use filereader::{Reader, Survey, read_head, read_through};
-use market::{Family, Opening, figures_in_sheet};
+use market::{FAMILIES, Family, Opening, figures_in_sheet};
 use std::{io, str};
 use wording::{Heading, InWords, Tenths};
 
@@ -54,11 +54,13 @@ fn print_reference(rt: &HostRuntime, reference: &[u8]) -> io::Result<()> {
 
 // The figures of a sheet, if the entry is one.
 fn print_figures(rt: &HostRuntime, entry: &Entry, families: &[Family]) -> io::Result<()> {
-    if let Entry::Sheet {
-        family,
-        figures: Figures::Encoded(bytes),
-        ..
-    } = *entry
+    if let Entry::Sheet(
+        Sheet {
+            family,
+            figures: Figures::Encoded(bytes),
+            ..
+        },
+    ) = *entry
     {
         let count = figures_in_sheet(families, family).unwrap_or(0);
         println!(rt; "  figures: {count}, in MW")?;
@@ -127,22 +129,6 @@ pub fn inspect<'a>(rt: &HostRuntime, file: &'a [u8], families: &'a [Family]) -> 
         }
     }
 }
-
-// The families that a book has today: their numbers, and the figures of an hour record.
-const FAMILIES: [Family; 3] = [
-    Family {
-        number: 1,
-        figures_per_hour: 3,
-    },
-    Family {
-        number: 2,
-        figures_per_hour: 3,
-    },
-    Family {
-        number: 3,
-        figures_per_hour: 5,
-    },
-];
 
 // Reads a file from standard input and reports on it; a longer input is reported as too long.
 pub fn run(rt: &HostRuntime) -> io::Result<()> {

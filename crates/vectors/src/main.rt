@@ -3,49 +3,28 @@
 // are passed over.
 #![tactic(auto)]
 
-ghost use Rattle.std.specs.Prelude.{◌≡◌, ◌+◌, ◌<◌, ◌≤◌, length, IfSome, IfErr, OnOk};
-ghost use Rattle.filereader.specs.Readers.{file_of};
+ghost use Rattle.std.specs.Prelude.{◌≡◌, ◌<◌, IfSome};
 ghost use Rattle.vectors.specs.Hex.{digit_of, spelled};
 
-use filereader::{Reader, read_head};
-use market::{Family, Fault};
+use filereader::{Survey, read_head, read_through};
+use market::{FAMILIES, Fault};
 use std::alloc::Global;
 use std::io::{BufRead, BufReader};
 use std::{fmt, io};
 
-// The families of the book: 72, 72 and 120 figures to a sheet.
-static FAMILIES: [Family; 3] = [
-    Family {
-        number: 1,
-        figures_per_hour: 3,
-    },
-    Family {
-        number: 2,
-        figures_per_hour: 3,
-    },
-    Family {
-        number: 3,
-        figures_per_hour: 5,
-    },
-];
-
 // What became of a file: how many entries were read whole, and the fault that ended the reading.
 #[derive(Clone, Copy)]
-struct Outcome {
-    entries: usize,
-    fault: Option<Fault>,
-}
+struct Outcome(Survey);
 
 impl fmt::Display for Outcome {
     fn fmt<W: fmt::Write>(&self, f: &mut fmt::Formatter<W>) -> fmt::Result {
-        let entries = self.entries;
-        let Some(fault) = self.fault else {
+        let entries = self.0.entries;
+        let Some(fault) = self.0.fault else {
             return write!(f, "{entries} entries");
         };
-        let cause = fault.cause.number();
-        let layer = fault.layer().number();
-        let entry = fault.entry;
-        let place = fault.place;
+        let cause = u32::from(fault.cause);
+        let layer = u32::from(fault.layer());
+        let Fault { entry, place, .. } = fault;
         write!(
             f,
             "{entries} entries, cause {cause} layer {layer} entry {entry} place {place}"
@@ -110,34 +89,15 @@ fn decode(heap: Global, text: &str) -> io::Result<Vec<u8>> {
     Ok(bytes)
 }
 
-// Takes entries from the reader up to the end of the file or the first fault, which is in the entry after those that
-// were read whole.
-fn read_on(reader: &mut Reader<'_>) -> Result<(), Fault>
-    ensures ends { OnOk result (length (file_of reader.new) ≤ reader.new.place) }
-    ensures stops { IfErr result (λ f. f.entry ≡ reader.new.entries + 1) }
-{
-    while let Some(_turn) = reader.next_entry()? {}
-    Ok(())
-}
-
 // Reads a file from its first byte to its end or its first fault.
 fn outcome_of(file: &[u8]) -> Outcome {
-    let head = match read_head(file) {
-        Ok(head) => head,
-        Err(fault) => return Outcome {
+    Outcome(match read_head(file) {
+        Ok(head) => read_through(file, &FAMILIES, head),
+        Err(fault) => Survey {
             entries: 0,
             fault: Some(fault),
         },
-    };
-    let mut reader = Reader::new(file, &FAMILIES, head);
-    let fault = match read_on(&mut reader) {
-        Ok(()) => None,
-        Err(fault) => Some(fault),
-    };
-    Outcome {
-        entries: reader.entries(),
-        fault,
-    }
+    })
 }
 
 // Runs one line of the table; whether it was a case.

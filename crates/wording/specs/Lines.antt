@@ -1,9 +1,9 @@
 -- The lines of a listing.
-use Rattle.std.specs.Prelude.{ℕ, cond, List, [], ◌++◌, codes, decimal, ◌==◌}
+use Rattle.std.specs.Prelude.{ℕ, cond, List, ◌++◌, codes, decimal, ◌==◌}
 use Rattle.market.specs.Kinds.{kind_number, mark_number}
 use Rattle.market.specs.Refusals.{refusal, layer_number}
 use Rattle.market.specs.declared.kind.Kind.{Kind}
-use Rattle.market.specs.declared.kind.Mark.{Mark}
+use Rattle.market.specs.declared.mark.Mark.{Mark}
 use Rattle.market.specs.declared.refusal.Cause.{Cause}
 use Rattle.market.specs.declared.refusal.Fault.{Fault}
 use Rattle.entryfile.specs.declared.entry.Entry.{Entry}
@@ -52,25 +52,19 @@ plain_text = codes "no fields"
 
 -- the fields of an entry; a sheet's figures follow on lines of their own
 abbrev pub fields_text : Entry → List ℕ
-fields_text (Award holder zone kind quantity icap capability t) = award_text (holding_text holder zone) (kind_text kind) quantity icap capability
-fields_text (Lodge award holder zone kind quantity capability t) = lodge_text award (holding_text holder zone) (kind_text kind) quantity capability
-fields_text (Approve award t) = named_text award
-fields_text (Reject award t) = named_text award
-fields_text (BuyOut award quantity t) = quantity_text award quantity
-fields_text (Reduction award quantity t) = quantity_text award quantity
-fields_text (Start t) = plain_text
-fields_text (Sheet award family figures t) = sheet_text award family
-fields_text (Standby award hour t) = standby_text award hour
-fields_text (DayEnd t) = plain_text
-fields_text (Test award delivered t) = test_text award delivered
-fields_text (Marking award sort t) = mark_text award sort
-fields_text (Closing t) = plain_text
-
--- the fields of an entry that says who holds an award, an award or a lodging; no text for another entry
-abbrev pub holding_fields : Entry → List ℕ
-holding_fields (Award holder zone kind quantity icap capability t) = award_text (holding_text holder zone) (kind_text kind) quantity icap capability
-holding_fields (Lodge award holder zone kind quantity capability t) = lodge_text award (holding_text holder zone) (kind_text kind) quantity capability
-holding_fields e = []
+fields_text (Award a) = award_text (holding_text a.holder a.zone) (kind_text a.kind) a.quantity a.cleared_icap a.capability
+fields_text (Lodge t) = lodge_text t.award (holding_text t.new_holder t.zone) (kind_text t.kind) t.quantity t.capability
+fields_text (Approve d) = named_text d.award
+fields_text (Reject d) = named_text d.award
+fields_text (BuyOut o) = quantity_text o.award o.quantity
+fields_text (Reduction o) = quantity_text o.award o.quantity
+fields_text (Start p) = plain_text
+fields_text (Sheet f) = sheet_text f.award f.family
+fields_text (Standby b) = standby_text b.award b.hour
+fields_text (DayEnd p) = plain_text
+fields_text (Test c) = test_text c.award c.delivered
+fields_text (Marking m) = mark_text m.award m.sort
+fields_text (Closing p) = plain_text
 
 -- the entry's count, the byte where it begins, its name and its sender
 abbrev pub heading_text : ℕ → ℕ → Turn → List ℕ

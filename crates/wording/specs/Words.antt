@@ -2,8 +2,8 @@
 use Rattle.std.specs.Prelude.{ℕ, ◌/◌, ◌%◌, cond, List, ◌++◌, codes, decimal, ◌==◌}
 use Rattle.market.specs.declared.kind.Kind.{Kind}
 use Rattle.market.specs.declared.kind.Kind.TheVariants.{VirtualDemandResponse, PhysicalDemandResponse, DispatchableLoad, Generation, Storage, SystemBackedImport, GeneratorBackedImport}
-use Rattle.market.specs.declared.kind.Mark.{Mark}
-use Rattle.market.specs.declared.kind.Mark.TheVariants.{LateData, FailedImportCall}
+use Rattle.market.specs.declared.mark.Mark.{Mark}
+use Rattle.market.specs.declared.mark.Mark.TheVariants.{LateData, FailedImportCall}
 use Rattle.market.specs.declared.refusal.Cause.{Cause}
 use Rattle.market.specs.declared.refusal.Cause.TheVariants.{Ends, Padded, Large, Unknown, OutOfRange, BadText, NoRoom}
 use Rattle.entryfile.specs.declared.entry.Entry.{Entry}
@@ -33,19 +33,19 @@ cause_meaning BadText = codes "a reference has a byte outside 32 to 126"
 cause_meaning NoRoom = codes "the buffer is too short"
 
 abbrev pub entry_name : Entry → List ℕ
-entry_name (Award holder zone kind quantity icap capability t) = codes "Award"
-entry_name (Lodge award holder zone kind quantity capability t) = codes "Lodge"
-entry_name (Approve award t) = codes "Approve"
-entry_name (Reject award t) = codes "Reject"
-entry_name (BuyOut award quantity t) = codes "Buy-out"
-entry_name (Reduction award quantity t) = codes "Reduction"
-entry_name (Start t) = codes "Start"
-entry_name (Sheet award family figures t) = codes "Sheet"
-entry_name (Standby award hour t) = codes "Standby"
-entry_name (DayEnd t) = codes "Day end"
-entry_name (Test award delivered t) = codes "Test"
-entry_name (Marking award sort t) = codes "Mark"
-entry_name (Closing t) = codes "Closing"
+entry_name (Award a) = codes "Award"
+entry_name (Lodge t) = codes "Lodge"
+entry_name (Approve d) = codes "Approve"
+entry_name (Reject d) = codes "Reject"
+entry_name (BuyOut o) = codes "Buy-out"
+entry_name (Reduction o) = codes "Reduction"
+entry_name (Start p) = codes "Start"
+entry_name (Sheet f) = codes "Sheet"
+entry_name (Standby b) = codes "Standby"
+entry_name (DayEnd p) = codes "Day end"
+entry_name (Test c) = codes "Test"
+entry_name (Marking m) = codes "Mark"
+entry_name (Closing p) = codes "Closing"
 
 -- sender 0 is the operator, any other is a holder
 abbrev pub sender_name : ℕ → List ℕ

@@ -1,10 +1,13 @@
 // The lines of a listing.
 ghost use Rattle.std.specs.Prelude.{Some};
+ghost use Rattle.entryfile.specs.declared.entry.Entry.TheVariants.{Award, Lodge};
 ghost use Rattle.wording.specs.Words.{sender_name};
-ghost use Rattle.wording.specs.Lines.{kind_text, holding_text, holding_fields, fields_text, heading_text, part_text, cause_text, fault_text, hours_text};
+ghost use Rattle.wording.specs.Lines.{kind_text, holding_text, fields_text, heading_text, part_text, cause_text, fault_text, hours_text};
 
 use crate::words::{Megawatts, cause_meaning, entry_name, kind_name, mark_name};
-use entryfile::{Entry, Turn};
+use entryfile::{
+    CapabilityTest, Decision, Entry, Marking, NewAward, Sheet, Standby, Transfer, Turn,
+};
 use market::{Cause, Fault, Kind};
 use std::fmt;
 
@@ -17,7 +20,7 @@ impl fmt::Display for InWords<Kind> {
     ghost output = { λ k. Some (kind_text k.0) };
 
     fn fmt<W: fmt::Write>(&self, f: &mut fmt::Formatter<W>) -> fmt::Result {
-        let number = self.0.number();
+        let number = u32::from(self.0);
         let name = kind_name(self.0);
         write!(f, "kind {number} ({name})")
     }
@@ -38,50 +41,43 @@ impl fmt::Display for Holding {
     }
 }
 
-// The fields of an entry that says who holds an award, an award or a lodging. It prints nothing of another entry.
-#[derive(Clone, Copy)]
-struct HoldingFields<'a>(&'a Entry<'a>);
-
-impl fmt::Display for HoldingFields<'_> {
-    ghost output = { λ e. Some (holding_fields e.0.now) };
+// The fields of a new award.
+impl fmt::Display for InWords<NewAward<'_>> {
+    ghost output = { λ a. Some (fields_text (Award a.0)) };
 
     fn fmt<W: fmt::Write>(&self, f: &mut fmt::Formatter<W>) -> fmt::Result {
-        match *self.0 {
-            Entry::Award {
-                holder,
-                zone,
-                kind,
-                quantity,
-                cleared_icap,
-                capability,
-                ..
-            } => write!(
-                f,
-                "{}, {}, quantity {}, cleared ICAP {}, capability {}",
-                Holding { holder, zone },
-                InWords(kind),
-                Megawatts(quantity),
-                Megawatts(cleared_icap),
-                Megawatts(capability)
-            ),
-            Entry::Lodge {
-                award,
-                new_holder: holder,
-                zone,
-                kind,
-                quantity,
-                capability,
-                ..
-            } => write!(
-                f,
-                "award {award}, new {}, {}, quantity {}, capability {}",
-                Holding { holder, zone },
-                InWords(kind),
-                Megawatts(quantity),
-                Megawatts(capability)
-            ),
-            _ => Ok(()),
-        }
+        let NewAward { holder, zone, .. } = self.0;
+        write!(
+            f,
+            "{}, {}, quantity {}, cleared ICAP {}, capability {}",
+            Holding { holder, zone },
+            InWords(self.0.kind),
+            Megawatts(self.0.quantity),
+            Megawatts(self.0.cleared_icap),
+            Megawatts(self.0.capability)
+        )
+    }
+}
+
+// The fields of a request to transfer.
+impl fmt::Display for InWords<Transfer<'_>> {
+    ghost output = { λ t. Some (fields_text (Lodge t.0)) };
+
+    fn fmt<W: fmt::Write>(&self, f: &mut fmt::Formatter<W>) -> fmt::Result {
+        let Transfer {
+            award,
+            new_holder: holder,
+            zone,
+            ..
+        } = self.0;
+        write!(
+            f,
+            "award {award}, new {}, {}, quantity {}, capability {}",
+            Holding { holder, zone },
+            InWords(self.0.kind),
+            Megawatts(self.0.quantity),
+            Megawatts(self.0.capability)
+        )
     }
 }
 
@@ -91,35 +87,38 @@ impl fmt::Display for InWords<&Entry<'_>> {
 
     fn fmt<W: fmt::Write>(&self, f: &mut fmt::Formatter<W>) -> fmt::Result {
         match *self.0 {
-            Entry::Award { .. } | Entry::Lodge { .. } => write!(f, "{}", HoldingFields(self.0)),
-            Entry::Approve { award, .. } | Entry::Reject { award, .. } => {
+            Entry::Award(award) => write!(f, "{}", InWords(award)),
+            Entry::Lodge(transfer) => write!(f, "{}", InWords(transfer)),
+            Entry::Approve(Decision { award, .. }) | Entry::Reject(Decision { award, .. }) => {
                 write!(f, "award {award}")
             }
-            Entry::BuyOut {
-                award,
-                quantity,
-                ..
+            Entry::BuyOut(off) | Entry::Reduction(off) => {
+                write!(
+                    f,
+                    "award {}, quantity {}",
+                    off.award,
+                    Megawatts(off.quantity)
+                )
             }
-            | Entry::Reduction {
-                award,
-                quantity,
-                ..
-            } => write!(f, "award {award}, quantity {}", Megawatts(quantity)),
-            Entry::Sheet { award, family, .. } => write!(f, "award {award}, family {family}"),
-            Entry::Standby { award, hour, .. } => write!(f, "award {award}, from hour {hour}"),
-            Entry::Test {
-                award,
-                delivered,
-                ..
-            } => write!(f, "award {award}, delivered {}", Megawatts(delivered)),
-            Entry::Marking { award, sort, .. } => {
-                let number = sort.number();
+            Entry::Sheet(Sheet { award, family, .. }) => {
+                write!(f, "award {award}, family {family}")
+            }
+            Entry::Standby(Standby { award, hour, .. }) => {
+                write!(f, "award {award}, from hour {hour}")
+            }
+            Entry::Test(
+                CapabilityTest {
+                    award,
+                    delivered,
+                    ..
+                },
+            ) => { write!(f, "award {award}, delivered {}", Megawatts(delivered)) }
+            Entry::Marking(Marking { award, sort, .. }) => {
+                let number = u32::from(sort);
                 let name = mark_name(sort);
                 write!(f, "award {award}, sort {number} ({name})")
             }
-            Entry::Start { .. } | Entry::DayEnd { .. } | Entry::Closing { .. } => {
-                write!(f, "no fields")
-            }
+            Entry::Start(_) | Entry::DayEnd(_) | Entry::Closing(_) => write!(f, "no fields"),
         }
     }
 }
@@ -179,8 +178,8 @@ impl fmt::Display for InWords<Cause> {
 
     fn fmt<W: fmt::Write>(&self, f: &mut fmt::Formatter<W>) -> fmt::Result {
         let meaning = cause_meaning(self.0);
-        let number = self.0.number();
-        let layer = self.0.layer().number();
+        let number = u32::from(self.0);
+        let layer = u32::from(self.0.layer());
         write!(f, "{meaning} (cause {number}, layer {layer})")
     }
 }

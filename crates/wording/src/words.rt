@@ -74,18 +74,18 @@ pub(crate) fn entry_name(entry: &Entry) -> &'static str
     ensures { result.now ≡ entry_name entry.now }
 {
     match entry {
-        Entry::Award { .. } => "Award",
-        Entry::Lodge { .. } => "Lodge",
-        Entry::Approve { .. } => "Approve",
-        Entry::Reject { .. } => "Reject",
-        Entry::BuyOut { .. } => "Buy-out",
-        Entry::Reduction { .. } => "Reduction",
-        Entry::Start { .. } => "Start",
-        Entry::Sheet { .. } => "Sheet",
-        Entry::Standby { .. } => "Standby",
-        Entry::DayEnd { .. } => "Day end",
-        Entry::Test { .. } => "Test",
-        Entry::Marking { .. } => "Mark",
-        Entry::Closing { .. } => "Closing",
+        Entry::Award(_) => "Award",
+        Entry::Lodge(_) => "Lodge",
+        Entry::Approve(_) => "Approve",
+        Entry::Reject(_) => "Reject",
+        Entry::BuyOut(_) => "Buy-out",
+        Entry::Reduction(_) => "Reduction",
+        Entry::Start(_) => "Start",
+        Entry::Sheet(_) => "Sheet",
+        Entry::Standby(_) => "Standby",
+        Entry::DayEnd(_) => "Day end",
+        Entry::Test(_) => "Test",
+        Entry::Marking(_) => "Mark",
+        Entry::Closing(_) => "Closing",
     }
 }
