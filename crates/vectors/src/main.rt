@@ -57,27 +57,17 @@ fn byte_of(text: &[u8]) -> Option<u8>
     Some(16 * high + low)
 }
 
-// Appends a byte so many times.
-fn append(bytes: &mut Vec<u8>, times: u16, byte: u8) -> io::Result<()> {
-    for _i in 0..times {
-        bytes.push(byte)?;
-    }
-    Ok(())
-}
-
 // Appends what one token spells: a byte, or a count, a star and a byte.
 fn append_token(bytes: &mut Vec<u8>, token: &str) -> io::Result<()> {
-    let (count, digits) = match token.split_once('*') {
-        Some(pair) => pair,
-        None => ("1", token),
-    };
+    let (count, digits) = token.split_once('*').unwrap_or(("1", token));
     let Ok(times) = count.parse::<u16>() else {
         return Err(io::Error::other("a count before a star is a number below 65536"));
     };
     let Some(byte) = byte_of(digits.as_bytes()) else {
         return Err(io::Error::other("a byte is two hexadecimal digits"));
     };
-    append(bytes, times, byte)
+    bytes.resize(bytes.len().saturating_add(usize::from(times)), byte)?;
+    Ok(())
 }
 
 // The bytes that a text spells.
