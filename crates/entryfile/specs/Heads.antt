@@ -1,17 +1,10 @@
 -- What is read before the entries, by the numbers that it stands for.
 use Rattle.std.specs.Prelude.{ℕ, List, Ok, Err, Result}
-use Rattle.upto.specs.Listed.{listed}
-use Rattle.market.specs.Openings.{Terms, terms}
 use Rattle.market.specs.Opened.{terms_of}
 use Rattle.entryfile.specs.declared.fault.EntryFault.{EntryFault}
 use Rattle.entryfile.specs.declared.head.Head.{Head}
-use Rattle.entryfile.specs.declared.head.TermsRead.{TermsRead}
 use Rattle.entryfile.specs.Forms.{Got}
 use Rattle.entryfile.specs.Files.{head_numbers}
-
--- what the terms say that were read
-abbrev pub terms_said : TermsRead → Terms
-terms_said t = terms (listed t.months) t.first_hour t.last_hour (listed t.prices) t.buyout_rate t.pass_mark
 
 -- version and opening by their numbers, and the place after them
 abbrev pub head_view : Result Head EntryFault → Got (List ℕ)

@@ -1,14 +1,13 @@
 -- What a value of the type Opening says.
 use Rattle.std.specs.Prelude.{◌≡◌, true, false, Ok, Err, Result}
-use Rattle.upto.specs.Listed.{listed}
-use Rattle.market.specs.Openings.{Terms, terms, terms_in_range}
+use Rattle.market.specs.Openings.{Terms, said, terms_in_range}
 use Rattle.market.specs.Refusals.{refused_call}
 use Rattle.market.specs.declared.opening.Opening.{Opening}
 use Rattle.market.specs.declared.refusal.Fault.{Fault}
 use Rattle.market.specs.declared.refusal.Cause.TheVariants.{OutOfRange}
 
 abbrev pub terms_of : Opening → Terms
-terms_of o = terms (listed o.months) o.first_hour o.last_hour (listed o.prices) o.buyout_rate o.pass_mark
+terms_of o = said o.terms
 
 -- terms in their ranges make an opening that says them; any others are refused with cause 5
 abbrev pub Made : Terms → Result Opening Fault → Type 0

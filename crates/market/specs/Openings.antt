@@ -2,7 +2,9 @@
 use Rattle.std.specs.Prelude.{ℕ, Bool, ◌&&◌, List, length}
 use Rattle.std.specs.List.{list_all}
 use Rattle.market.specs.Ranges.{within, limit}
+use Rattle.upto.specs.Listed.{listed}
 use Rattle.market.specs.declared.month.Month.{Month}
+use Rattle.market.specs.declared.terms.OpeningTerms.{OpeningTerms}
 
 pub record Terms : Type 0 where
   pub months : List Month
@@ -14,6 +16,10 @@ pub record Terms : Type 0 where
 
 abbrev pub terms : List Month → ℕ → ℕ → List ℕ → ℕ → ℕ → Terms
 terms ms first last ps rate mark = record { months = ms; first_hour = first; last_hour = last; prices = ps; buyout_rate = rate; pass_mark = mark }
+
+-- what the code's terms say
+abbrev pub said : OpeningTerms → Terms
+said t = terms (listed t.months) t.first_hour t.last_hour (listed t.prices) t.buyout_rate t.pass_mark
 
 -- 1 to 23 business days, a factor of 1 to 100 tenths
 abbrev pub month_in_range : Month → Bool

@@ -21,6 +21,7 @@ pub use month::Month;
 pub use numbered::{Numbered, UnknownNumber};
 pub use opening::Opening;
 pub use refusal::{Cause, Fault, Layer};
+pub use terms::OpeningTerms;
 
 // Whether a number lies from `low` to `high`, both included.
 pub fn in_range(n: u32, low: u32, high: u32) -> bool

@@ -1,15 +1,26 @@
-// Making an opening, and asking what it says.
-ghost use Rattle.std.specs.Prelude.{◌≡◌, length};
+// The terms of an opening, and whether they are in their ranges.
+ghost use Rattle.std.specs.Prelude.{◌≡◌};
 ghost use Rattle.std.specs.List.{list_all};
 ghost use Rattle.market.specs.Ranges.{within, limit};
-ghost use Rattle.market.specs.Openings.{terms, month_in_range, calendar_fits, prices_fit};
-ghost use Rattle.market.specs.Opened.{Made, terms_of};
+ghost use Rattle.market.specs.Openings.{said, terms_in_range, month_in_range, calendar_fits, prices_fit};
 
 use crate::in_range;
 use crate::month::Month;
-use crate::opening::Opening;
-use crate::refusal::{Cause, Fault};
 use upto::UpTo;
+
+// What is fixed for a whole period. It has at most 6 months and a market at most 10 zones, so the terms are a plain value.
+#[derive(Clone, Copy)]
+pub struct OpeningTerms {
+    pub months: UpTo<Month, 6>,
+    // the first and the last hour of the availability window
+    pub first_hour: u32,
+    pub last_hour: u32,
+    // cents for a megawatt-hour, zone by zone
+    pub prices: UpTo<u32, 10>,
+    // in percent
+    pub buyout_rate: u32,
+    pub pass_mark: u32,
+}
 
 fn months_in_range(months: &[Month]) -> bool
     ensures { result ≡ list_all month_in_range months.now }
@@ -43,83 +54,12 @@ fn prices_and_shares_in_range(prices: &[u32], buyout_rate: u32, pass_mark: u32) 
         && in_range(pass_mark, 1, 100)
 }
 
-impl Opening {
-    // An opening with these terms; refused with cause 5 where one of them is out of its range.
-    pub fn new(
-        months: &[Month],
-        first_hour: u32,
-        last_hour: u32,
-        prices: &[u32],
-        buyout_rate: u32,
-        pass_mark: u32,
-    ) -> Result<Opening, Fault>
-        ensures { Made (terms months.now first_hour last_hour prices.now buyout_rate pass_mark) result }
+impl OpeningTerms {
+    // Whether each term is in its range.
+    pub(crate) fn is_in_range(&self) -> bool
+        ensures { result ≡ terms_in_range (said self.now) }
     {
-        let refused = Err(Fault::of_call(Cause::OutOfRange));
-        if !calendar_in_range(months, first_hour, last_hour)
-            || !prices_and_shares_in_range(prices, buyout_rate, pass_mark)
-        {
-            return refused;
-        }
-        let (Ok(months), Ok(prices)) = (UpTo::try_from(months), UpTo::try_from(prices)) else {
-            return refused;
-        };
-        Ok(Opening {
-            months,
-            first_hour,
-            last_hour,
-            prices,
-            buyout_rate,
-            pass_mark,
-        })
-    }
-
-    // The months of the period, in order.
-    pub fn months(&self) -> &[Month]
-        ensures { result.now ≡ (terms_of self.now).months }
-    {
-        self.months.as_slice()
-    }
-
-    // The prices of the zones, in cents for a megawatt-hour, from zone 1 on.
-    pub fn prices(&self) -> &[u32]
-        ensures { result.now ≡ (terms_of self.now).prices }
-    {
-        self.prices.as_slice()
-    }
-
-    // How many zones there are.
-    pub fn zones(&self) -> u32
-        ensures { result ≡ length (terms_of self.now).prices }
-    {
-        self.prices().len() as u32
-    }
-
-    // The first hour of the availability window.
-    pub fn first_hour(&self) -> u32
-        ensures { result ≡ (terms_of self.now).first_hour }
-    {
-        self.first_hour
-    }
-
-    // The last hour of the availability window.
-    pub fn last_hour(&self) -> u32
-        ensures { result ≡ (terms_of self.now).last_hour }
-    {
-        self.last_hour
-    }
-
-    // The buy-out rate in percent.
-    pub fn buyout_rate(&self) -> u32
-        ensures { result ≡ (terms_of self.now).buyout_rate }
-    {
-        self.buyout_rate
-    }
-
-    // The pass mark of a capacity test in percent.
-    pub fn pass_mark(&self) -> u32
-        ensures { result ≡ (terms_of self.now).pass_mark }
-    {
-        self.pass_mark
+        calendar_in_range(self.months.as_slice(), self.first_hour, self.last_hour)
+            && prices_and_shares_in_range(self.prices.as_slice(), self.buyout_rate, self.pass_mark)
     }
 }

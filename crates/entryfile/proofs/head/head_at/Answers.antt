@@ -5,7 +5,7 @@ use Rattle.market.specs.Opened.{terms_of}
 use Rattle.entryfile.specs.Forms.{more, after_field, form_at}
 use Rattle.entryfile.specs.Layout.{opening_form}
 use Rattle.entryfile.specs.Files.{head_form, head_numbers, opening_numbers}
-use Rattle.entryfile.specs.Heads.{terms_said}
+use Rattle.market.specs.Openings.{said}
 use Rattle.entryfile.proofs.Checks.{check_passed}
 use Rattle.entryfile.proofs.Writing.{form_writes}
 use Rattle.entryfile.proofs.head.head_at.Goals as goal
@@ -15,7 +15,7 @@ opened-requires c =
     let f = ap (λ b. b.now) c.in_ok-version.ensures.file in
     let told = c.in_ok-terms.ensures.is ∙ ap (λ g. form_at opening_form g c.version.new.self.place) f in
     let within = c.version.new.self.within in
-    (form_writes opening_form c.args.file.now (opening_numbers (terms_said c.in_ok-terms.terms)) c.version.new.self.place c.terms.new.cursor.place (under_bytes _ (λ i. omega (arith, c.type_inv.file i))) (rw f at within) (sym told)).0.fits
+    (form_writes opening_form c.args.file.now (opening_numbers (said c.in_ok-terms.terms)) c.version.new.self.place c.terms.new.cursor.place (under_bytes _ (λ i. omega (arith, c.type_inv.file i))) (rw f at within) (sym told)).0.fits
 
 pub returns : goal.returns
 returns c =
