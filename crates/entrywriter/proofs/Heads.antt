@@ -1,51 +1,23 @@
 -- The numbers and the bytes of the head of a file.
-use Rattle.std.proofs.Common.{◌≡◌, ℕ, ◌+◌, ◌^◌, ◌<◌, ◌≤◌, true, ◌&&◌, leb, List, [], ◌∷◌, ◌++◌, length, get_or, drop, Ok, sym, ap, ◌∙◌, arith, length-append}
+use Rattle.std.proofs.Common.{◌≡◌, ℕ, ◌^◌, ◌<◌, ◌≤◌, true, ◌&&◌, leb, List, [], ◌∷◌, length, Ok, sym, ap, ◌∙◌, arith, length-take}
 use Rattle.std.specs.List.{list_all}
 use Rattle.std.specs.Int.Digits.{AllBelowBase}
 use Rattle.std.proofs.ByRecursion.{All-append}
-use Rattle.std.proofs.lemmas.List.{at_drop_more}
 use Rattle.std.proofs.lemmas.Bool.{and_parts, leb-true}
 use Rattle.number.specs.Writes.{Wrote}
+use Rattle.upto.specs.Listed.{listed}
+use Rattle.upto.specs.declared.list.UpTo.{UpTo}
 use Rattle.market.specs.Ranges.{within, limit}
 use Rattle.market.specs.Openings.{Terms, month_in_range, calendar_fits, prices_fit, terms_in_range}
 use Rattle.market.specs.declared.month.Month.{Month}
-use Rattle.entryfile.specs.Items.{numbers_bytes}
 use Rattle.entryfile.specs.Files.{month_numbers, head_form, head_numbers, head_bytes}
 use Rattle.entryfile.proofs.Reading.{form_reads}
 use Rattle.entryfile.proofs.Ranged.{opening_accepts}
 use Rattle.entrywriter.specs.Writes.{HeadReadsBack}
-use Rattle.entrywriter.proofs.Joining.{bytes_append}
 
--- what is left of months, one month on
-pub months_more : (ms : List Month) (i : ℕ) (m : Month) → i < length ms → numbers_bytes (month_numbers (drop i ms)) ≡ numbers_bytes ((get_or ms i m).days ∷ (get_or ms i m).factor ∷ []) ++ numbers_bytes (month_numbers (drop (i + 1) ms))
-months_more ms i m h = at_drop_more (λ l. numbers_bytes (month_numbers l)) ms i m h ∙ bytes_append ((get_or ms i m).days ∷ (get_or ms i m).factor ∷ []) (month_numbers (drop (i + 1) ms))
-
-pub months_size_more : (ms : List Month) (i : ℕ) (m : Month) → i < length ms → length (numbers_bytes (month_numbers (drop i ms))) ≡ length (numbers_bytes ((get_or ms i m).days ∷ (get_or ms i m).factor ∷ [])) + length (numbers_bytes (month_numbers (drop (i + 1) ms)))
-months_size_more ms i m h = ap length (months_more ms i m h) ∙ length-append (numbers_bytes ((get_or ms i m).days ∷ (get_or ms i m).factor ∷ [])) (numbers_bytes (month_numbers (drop (i + 1) ms)))
-
-in_parts : (t : Terms) → numbers_bytes (1 ∷ length t.months ∷ []) ++ (numbers_bytes (month_numbers t.months) ++ (numbers_bytes (t.first_hour ∷ t.last_hour ∷ length t.prices ∷ []) ++ (numbers_bytes t.prices ++ numbers_bytes (t.buyout_rate ∷ t.pass_mark ∷ [])))) ≡ head_bytes t
-in_parts t =
-    let shares = t.buyout_rate ∷ t.pass_mark ∷ [] in
-    let window = t.first_hour ∷ t.last_hour ∷ length t.prices ∷ [] in
-    let first = 1 ∷ length t.months ∷ [] in
-    let ms = month_numbers t.months in
-    sym (bytes_append first (ms ++ (window ++ (t.prices ++ shares)))
-    ∙ ap (λ l. numbers_bytes first ++ l) (bytes_append ms (window ++ (t.prices ++ shares)))
-    ∙ ap (λ l. numbers_bytes first ++ (numbers_bytes ms ++ l)) (bytes_append window (t.prices ++ shares))
-    ∙ ap (λ l. numbers_bytes first ++ (numbers_bytes ms ++ (numbers_bytes window ++ l))) (bytes_append t.prices shares))
-
--- the parts of the head as the code holds them
-module _ (t : Terms) (ms : List Month) (ps : List ℕ) (f l z r m : ℕ) (e₁ : ms ≡ t.months) (e₂ : ps ≡ t.prices) (e₃ : f ≡ t.first_hour) (e₄ : l ≡ t.last_hour) (e₅ : z ≡ length t.prices) (e₆ : r ≡ t.buyout_rate) (e₇ : m ≡ t.pass_mark) where
-  pub head_bytes_by_parts : numbers_bytes (1 ∷ length ms ∷ []) ++ (numbers_bytes (month_numbers ms) ++ (numbers_bytes (f ∷ l ∷ z ∷ []) ++ (numbers_bytes ps ++ numbers_bytes (r ∷ m ∷ [])))) ≡ head_bytes t
-  head_bytes_by_parts = rw (e₁, e₂, e₃, e₄, e₅, e₆, e₇) (in_parts t)
-
-  pub head_size : length (numbers_bytes (1 ∷ length ms ∷ [])) + (length (numbers_bytes (month_numbers ms)) + (length (numbers_bytes (f ∷ l ∷ z ∷ [])) + (length (numbers_bytes ps) + length (numbers_bytes (r ∷ m ∷ []))))) ≡ length (head_bytes t)
-  head_size =
-      let shares = numbers_bytes (r ∷ m ∷ []) in
-      let window = numbers_bytes (f ∷ l ∷ z ∷ []) in
-      let first = numbers_bytes (1 ∷ length ms ∷ []) in
-      let months = numbers_bytes (month_numbers ms) in
-      omega (arith, ap length head_bytes_by_parts, length-append first (months ++ (window ++ (numbers_bytes ps ++ shares))), length-append months (window ++ (numbers_bytes ps ++ shares)), length-append window (numbers_bytes ps ++ shares), length-append (numbers_bytes ps) shares)
+-- a list has no more items than it can hold
+pub few_listed : {T : Type 0} {N : ℕ} (l : UpTo T N) → length (listed l) ≤ N
+few_listed l = omega (arith, l.few, length-take l.count l.places)
 
 within_small : (low high n : ℕ) → high ≤ 100000 → within low high n ≡ true → n < 2 ^ 32
 within_small low high n h e = let k = leb-true n high (and_parts (leb low n) (leb n high) e).1 in omega arith

@@ -1,4 +1,3 @@
 pub mod Writes
 pub mod Leads
 pub mod Spells
-pub mod Made

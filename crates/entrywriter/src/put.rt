@@ -65,8 +65,7 @@ pub(crate) fn put_entry(buf: &mut [u8], turn: Turn) -> usize
     requires spells { SpellsIn turn.entry }
     ensures { Wrote buf.old 0 (item_bytes (item_of turn.entry)) result buf.new }
 {
-    let lead = lead_of(turn);
-    let next = put_numbers(buf, 0, &lead.numbers[0..lead.count]);
+    let next = put_numbers(buf, 0, lead_of(&turn).as_slice());
     let next = put_figures(buf, next, figures_of(turn.entry));
     put_reference(buf, next, turn.entry.reference())
 }

@@ -1,8 +1,10 @@
-use Rattle.std.proofs.Common.{length, refl, arith}
+use Rattle.std.proofs.Common.{length, refl, ap, ◌∙◌, arith}
 use Rattle.std.proofs.lemmas.Bool.{le-leb}
 use Rattle.market.specs.Opened.{terms_of}
+use Rattle.entryfile.specs.Items.{numbers_bytes}
 use Rattle.entryfile.specs.Files.{head_bytes}
 use Rattle.entrywriter.proofs.Heads.{head_reads_back}
+use Rattle.entrywriter.proofs.Puts.{same}
 use Rattle.entrywriter.proofs.Telling.{wrote}
 use Rattle.entrywriter.proofs.write_opening.Goals as goal
 
@@ -10,8 +12,10 @@ pub returns : goal.returns
 returns c =
     let t = terms_of c.args.opening.now in
     let was = c.args.buf.now in
-    let room = le-leb (length (head_bytes t)) (length was) (omega (arith, c.if-buf-head_size.false, c.head_size.ensures)) in
+    let bytes = ap numbers_bytes (c.as_slice.ensures.items ∙ c.head_numbers-numbers.ensures) in
+    let put = same (ap numbers_bytes (c.as_slice-2.ensures.items ∙ c.head_numbers-numbers.ensures)) c.put_numbers.ensures in
+    let room = le-leb (length (head_bytes t)) (length was) (omega (arith, c.if-buf-numbers_size.false, c.numbers_size.ensures.is, ap length bytes)) in
     record {
-      is = wrote was (head_bytes t) _ _ _ c.put_head.ensures refl refl room;
-      rereads = head_reads_back t c.args.opening.now.in_range c.put_head.ensures;
+      is = wrote was (head_bytes t) _ _ _ put refl refl room;
+      rereads = head_reads_back t c.args.opening.now.in_range put;
     }

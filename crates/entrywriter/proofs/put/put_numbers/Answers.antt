@@ -1,5 +1,5 @@
 use Rattle.std.proofs.Common.{◌+◌, length, drop, sym, ap, ◌∙◌, arith}
-use lib.Seq.{sets}
+use Rattle.std.proofs.lemmas.List.Edits.{sets}
 use Rattle.std.proofs.lemmas.List.{at_drop_all}
 use Rattle.entryfile.specs.Items.{numbers_bytes}
 use Rattle.entrywriter.proofs.Joining.{bytes_more, size_more}

@@ -1,5 +1,5 @@
 use Rattle.std.proofs.Common.{◌≡◌, ◌+◌, length, drop}
-use lib.Seq.{sets}
+use Rattle.std.proofs.lemmas.List.Edits.{sets}
 use Rattle.entryfile.specs.Items.{numbers_bytes}
 use Rattle.entrywriter.proofs.put.put_numbers.Given as goal
 
