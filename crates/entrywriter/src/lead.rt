@@ -25,7 +25,7 @@ fn lead(turn: &Turn, fields: &[u32]) -> UpTo<u32, 8>
 pub(crate) fn lead_of(turn: &Turn) -> UpTo<u32, 8>
     ensures { listed result ≡ lead_of turn.now.sender turn.now.entry }
 {
-    match turn.entry {
+    match &turn.entry {
         Entry::Award(award) => lead(
             turn,
             &[
@@ -59,9 +59,9 @@ pub(crate) fn lead_of(turn: &Turn) -> UpTo<u32, 8>
 }
 
 // The figures of a sheet; any other entry has none.
-pub(crate) fn figures_of<'a>(entry: Entry<'a>) -> Figures<'a>
-    ensures is { figures_of result ≡ figures_in entry.entry }
-    ensures spells { SpellsIn entry.entry → Spells result }
+pub(crate) fn figures_of<'a>(entry: &Entry<'a>) -> Figures<'a>
+    ensures is { figures_of result ≡ figures_in entry.now }
+    ensures spells { SpellsIn entry.now → Spells result }
 {
     match entry {
         Entry::Sheet(sheet) => sheet.figures,

@@ -10,12 +10,12 @@ ghost use Rattle.entrywriter.specs.Writes.{entry_writing, plain_writing, ReadsBa
 mod head;
 mod lead;
 mod list;
-mod put;
+mod pen;
 mod ranges;
 mod size;
 
 use crate::head::head_numbers;
-use crate::put::{put_entry, put_numbers};
+use crate::pen::Pen;
 use crate::ranges::fields_in_range;
 use crate::size::{entry_size, numbers_size};
 use entryfile::{Setting, Turn, is_printable};
@@ -31,7 +31,9 @@ pub fn write_opening(buf: &mut [u8], opening: &Opening) -> Result<usize, Fault>
     if buf.len() < numbers_size(numbers.as_slice()) {
         return Err(Fault::of_call(Cause::NoRoom));
     }
-    Ok(put_numbers(buf, 0, numbers.as_slice()))
+    let mut pen = Pen { buf, place: 0 };
+    pen.numbers(numbers.as_slice());
+    Ok(pen.place)
 }
 
 // Writes an entry at the front of the buffer, and returns how many bytes it takes. Refusals are cause 5 (a field out of
@@ -51,14 +53,16 @@ pub fn write_entry(
         families,
     };
     let reference = turn.entry.reference();
-    if !fields_in_range(turn, setting) || reference.len() > 32 {
+    if !fields_in_range(&turn, setting) || reference.len() > 32 {
         return Err(Fault::of_call(Cause::OutOfRange));
     }
     if !is_printable(reference) {
         return Err(Fault::of_call(Cause::BadText));
     }
-    if buf.len() < entry_size(turn) {
+    if buf.len() < entry_size(&turn) {
         return Err(Fault::of_call(Cause::NoRoom));
     }
-    Ok(put_entry(buf, turn))
+    let mut pen = Pen { buf, place: 0 };
+    pen.entry(&turn);
+    Ok(pen.place)
 }

@@ -84,9 +84,9 @@ fn entry_in_range(entry: Entry, setting: Setting) -> bool
 }
 
 // Whether the sender and every field are in their ranges.
-pub(crate) fn fields_in_range(turn: Turn, setting: Setting) -> bool
-    ensures is { result ≡ accepts (entry_form setting.entry.zones setting.entry.families.now) (numbers_of turn.entry.sender turn.entry.entry) }
-    ensures spells { result ≡ true → SpellsIn turn.entry.entry }
+pub(crate) fn fields_in_range(turn: &Turn, setting: Setting) -> bool
+    ensures is { result ≡ accepts (entry_form setting.entry.zones setting.entry.families.now) (numbers_of turn.now.sender turn.now.entry) }
+    ensures spells { result ≡ true → SpellsIn turn.now.entry }
 {
     in_range(turn.sender, 0, 999) && entry_in_range(turn.entry, setting)
 }

@@ -30,13 +30,13 @@ fn figures_size(figures: Figures) -> usize
     }
 }
 
-pub(crate) fn entry_size(turn: Turn) -> usize
-    requires short { length (reference_of turn.entry) ≤ 32 }
-    requires spells { SpellsIn turn.entry }
-    ensures is { result ≡ length (item_bytes (item_of turn.entry)) }
-    ensures small { AllBelowBase (2 ^ 32) (lead_of turn.entry.sender turn.entry.entry) }
+pub(crate) fn entry_size(turn: &Turn) -> usize
+    requires short { length (reference_of turn.now.entry) ≤ 32 }
+    requires spells { SpellsIn turn.now.entry }
+    ensures is { result ≡ length (item_bytes (item_of turn.now)) }
+    ensures small { AllBelowBase (2 ^ 32) (lead_of turn.now.sender turn.now.entry) }
 {
     let reference = turn.entry.reference();
-    let fields = numbers_size(lead_of(&turn).as_slice()) + figures_size(figures_of(turn.entry));
+    let fields = numbers_size(lead_of(turn).as_slice()) + figures_size(figures_of(&turn.entry));
     fields + number_size(reference.len() as u32) + reference.len()
 }

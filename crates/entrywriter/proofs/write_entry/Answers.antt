@@ -1,4 +1,4 @@
-use Rattle.std.proofs.Common.{◌≡◌, ◌≤◌, true, length, sym, ap, ◌∙◌, inl, inr, ⊎_elim, arith}
+use Rattle.std.proofs.Common.{rules, ◌≡◌, ◌≤◌, true, length, sym, ap, ◌∙◌, inl, inr, ⊎_elim, arith}
 use Rattle.std.specs.List.{list_all}
 use Rattle.std.proofs.lemmas.Bool.{le-leb}
 use Rattle.market.specs.Opened.{terms_of}
@@ -32,6 +32,6 @@ returns c =
     let text : list_all printable (reference_of turn.entry) ≡ true = sym (c.if-not-is_printable.ensures ∙ ap (list_all printable) c.reference-reference.ensures) in
     let room = le-leb (length (item_bytes (item_of turn))) (length was) (omega (arith, c.if-buf-entry_size.false, c.entry_size.ensures.is)) in
     record {
-      is = wrote was (item_bytes (item_of turn)) _ _ _ c.put_entry.ensures (item_is_in_range zones families turn fit few) text room;
-      rereads = reads_back zones families turn fit few c.entry_size.ensures.small text c.put_entry.ensures;
+      is = let w = wrote was (item_bytes (item_of turn)) _ _ _ c.entry.ensures.wrote (item_is_in_range zones families turn fit few) text room in grind (arith, w);
+      rereads = reads_back zones families turn fit few c.entry_size.ensures.small text c.entry.ensures.wrote;
     }

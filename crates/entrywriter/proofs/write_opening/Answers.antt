@@ -1,4 +1,4 @@
-use Rattle.std.proofs.Common.{length, refl, ap, ◌∙◌, arith}
+use Rattle.std.proofs.Common.{rules, length, refl, ap, ◌∙◌, arith}
 use Rattle.std.proofs.lemmas.Bool.{le-leb}
 use Rattle.market.specs.Opened.{terms_of}
 use Rattle.entryfile.specs.Items.{numbers_bytes}
@@ -13,9 +13,9 @@ returns c =
     let t = terms_of c.args.opening.now in
     let was = c.args.buf.now in
     let bytes = ap numbers_bytes (c.as_slice.ensures.items ∙ c.head_numbers-numbers.ensures) in
-    let put = same (ap numbers_bytes (c.as_slice-2.ensures.items ∙ c.head_numbers-numbers.ensures)) c.put_numbers.ensures in
+    let put = same (ap numbers_bytes (c.as_slice-2.ensures.items ∙ c.head_numbers-numbers.ensures)) c.numbers.ensures.wrote in
     let room = le-leb (length (head_bytes t)) (length was) (omega (arith, c.if-buf-numbers_size.false, c.numbers_size.ensures.is, ap length bytes)) in
     record {
-      is = wrote was (head_bytes t) _ _ _ put refl refl room;
+      is = search (rules, wrote was (head_bytes t) _ _ _ put refl refl room);
       rereads = head_reads_back t c.args.opening.now.in_range put;
     }
