@@ -1,8 +1,9 @@
 -- The bytes of numbers, part by part.
-use Rattle.std.proofs.Common.{◌≡◌, ℕ, ◌+◌, ◌*◌, ◌^◌, ◌<◌, ◌≤◌, List, [], ◌∷◌, ◌++◌, length, get_or, drop, sym, refl, ap, ◌∙◌, append_assoc, arith, length-append}
+use Rattle.std.proofs.Common.{◌≡◌, ℕ, ◌+◌, ◌*◌, ◌^◌, ◌<◌, ◌≤◌, List, [], ◌∷◌, ◌++◌, length, get_or, take, drop, sym, refl, ap, ◌∙◌, append-nil, arith, length-append, take-append-drop}
 use Rattle.std.specs.Int.Digits.{AllBelowBase}
 use Rattle.std.proofs.ByRecursion.{All-from_get_or}
-use Rattle.std.proofs.lemmas.List.{at_drop_more}
+use Rattle.std.proofs.lemmas.Grind.{flat_map-append}
+use Rattle.std.proofs.lemmas.List.{take_more}
 use Rattle.number.specs.Numbers.{encode}
 use Rattle.number.proofs.Codec.{encode_few}
 use Rattle.entryfile.specs.declared.entry.Entry.{Entry}
@@ -12,16 +13,16 @@ use Rattle.entryfile.specs.Items.{numbers_bytes, reference_bytes, item_bytes}
 use Rattle.entryfile.specs.Views.{numbers_of, reference_of, item_of}
 use Rattle.entrywriter.specs.Leads.{lead_of, figures_in}
 
-pub bytes_append : (xs ys : List ℕ) → numbers_bytes (xs ++ ys) ≡ numbers_bytes xs ++ numbers_bytes ys
-bytes_append [] ys = refl
-bytes_append (x ∷ xs) ys = ap (λ l. encode x ++ l) (bytes_append xs ys) ∙ sym (append_assoc (encode x) (numbers_bytes xs) (numbers_bytes ys))
+-- one number on
+pub bytes_more : (ns : List ℕ) (i : ℕ) → i < length ns → numbers_bytes (take i ns) ++ encode (get_or ns i 0) ≡ numbers_bytes (take (i + 1) ns)
+bytes_more ns i h = sym (ap numbers_bytes (take_more ns i 0 h) ∙ flat_map-append encode (take i ns) (get_or ns i 0 ∷ []) ∙ ap (λ l. numbers_bytes (take i ns) ++ l) (append-nil (encode (get_or ns i 0))))
 
--- what is left of numbers, one number on
-pub bytes_more : (ns : List ℕ) (i : ℕ) → i < length ns → numbers_bytes (drop i ns) ≡ encode (get_or ns i 0) ++ numbers_bytes (drop (i + 1) ns)
-bytes_more ns i h = at_drop_more numbers_bytes ns i 0 h
-
-pub size_more : (ns : List ℕ) (i : ℕ) → i < length ns → length (numbers_bytes (drop i ns)) ≡ length (encode (get_or ns i 0)) + length (numbers_bytes (drop (i + 1) ns))
-size_more ns i h = ap length (bytes_more ns i h) ∙ length-append (encode (get_or ns i 0)) (numbers_bytes (drop (i + 1) ns))
+pub room_more : (ns : List ℕ) (i : ℕ) → i < length ns → length (numbers_bytes (take i ns)) + length (encode (get_or ns i 0)) ≤ length (numbers_bytes ns)
+room_more ns i h =
+    let done = numbers_bytes (take (i + 1) ns) in
+    let left = numbers_bytes (drop (i + 1) ns) in
+    let whole : done ++ left ≡ numbers_bytes ns = sym (flat_map-append encode (take (i + 1) ns) (drop (i + 1) ns)) ∙ ap numbers_bytes (take-append-drop (i + 1) ns) in
+    omega (arith, ap length whole, length-append done left, ap length (bytes_more ns i h), length-append (numbers_bytes (take i ns)) (encode (get_or ns i 0)))
 
 -- the numbers of a slice, each of which fits 32 bits
 pub under_numbers : (ns : List ℕ) → ((i : ℕ) → get_or ns i 0 < 2 ^ 32) → AllBelowBase (2 ^ 32) ns
@@ -50,7 +51,7 @@ in_parts s (Closing p) = refl
 
 -- so are their bytes
 pub bytes_in_parts : (s : ℕ) (e : Entry) → numbers_bytes (numbers_of s e) ≡ numbers_bytes (lead_of s e) ++ numbers_bytes (figures_in e)
-bytes_in_parts s e = ap numbers_bytes (in_parts s e) ∙ bytes_append (lead_of s e) (figures_in e)
+bytes_in_parts s e = ap numbers_bytes (in_parts s e) ∙ flat_map-append encode (lead_of s e) (figures_in e)
 
 -- the parts of an entry as the code holds them
 module _ (turn : Turn) (ns figures t : List ℕ) (ls : ns ≡ lead_of turn.sender turn.entry) (fs : figures ≡ figures_in turn.entry) (ts : t ≡ reference_of turn.entry) where

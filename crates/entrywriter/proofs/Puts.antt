@@ -9,10 +9,6 @@ pub sets-append : (b : List ℕ) (at : ℕ) (xs ys : List ℕ) → sets (sets b 
 sets-append b at [] ys = ap (λ n. sets b n ys) (add-zero at)
 sets-append b at (x ∷ xs) ys = ap (λ n. sets (sets (set b at x) (suc at) xs) n ys) (omega arith) ∙ sets-append (set b at x) (suc at) xs ys
 
--- after a write, what comes next is written over what it left
-pub sets_then : {b c : List ℕ} {at p : ℕ} {xs : List ℕ} (ys : List ℕ) → Wrote b at xs p c → sets c p ys ≡ sets b at (xs ++ ys)
-sets_then {b} {c} {at} {p} {xs} ys v = ap (λ a. sets a p ys) v.left ∙ ap (λ n. sets (sets b at xs) n ys) v.ends ∙ sets-append b at xs ys
-
 -- a write leaves the buffer as long as it was
 pub long : {b c : List ℕ} {at p : ℕ} {xs : List ℕ} → Wrote b at xs p c → length c ≡ length b
 long {b} {c} {at} {p} {xs} v = ap length v.left ∙ length-sets b at xs
@@ -23,7 +19,7 @@ then {b} {c} {d} {at} {p} {q} {xs} {ys} v w =
     record {
       ends = omega (arith, v.ends, w.ends);
       within = omega (arith, v.ends, w.within, long v);
-      left = w.left ∙ sets_then ys v;
+      left = w.left ∙ ap (λ a. sets a p ys) v.left ∙ ap (λ n. sets (sets b at xs) n ys) v.ends ∙ sets-append b at xs ys;
     }
 
 -- bytes that are copied into a part of the buffer

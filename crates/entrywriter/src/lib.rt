@@ -27,12 +27,13 @@ pub fn write_opening(buf: &mut [u8], opening: &Opening) -> Result<usize, Fault>
     ensures is { (result, buf.new) ≡ plain_writing (head_bytes (terms_of opening.now)) buf.old }
     ensures rereads { HeadReadsBack (terms_of opening.now) result }
 {
-    let numbers = head_numbers(opening);
-    if buf.len() < numbers_size(numbers.as_slice()) {
+    let head = head_numbers(opening);
+    let numbers = head.as_slice();
+    if buf.len() < numbers_size(numbers) {
         return Err(Fault::of_call(Cause::NoRoom));
     }
     let mut pen = Pen { buf, place: 0 };
-    pen.numbers(numbers.as_slice());
+    pen.numbers(numbers);
     Ok(pen.place)
 }
 

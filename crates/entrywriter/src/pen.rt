@@ -20,7 +20,7 @@ impl<'a> Pen<'a> {
     fn number(&mut self, n: u32)
         requires { self.old.place + length (encode n) ≤ length self.old.buf.now }
         ensures wrote { Wrote self.old.buf.now self.old.place (encode n) self.new.place self.new.buf.now }
-        ensures same { self.new.buf.ghost_name ≡ self.old.buf.ghost_name }
+        ensures buffer { self.new.buf.ghost_name ≡ self.old.buf.ghost_name }
     {
         self.place = write_number(self.buf, self.place, n).unwrap();
     }
@@ -28,7 +28,7 @@ impl<'a> Pen<'a> {
     pub(crate) fn numbers(&mut self, numbers: &[u32])
         requires { self.old.place + length (numbers_bytes numbers.now) ≤ length self.old.buf.now }
         ensures wrote { Wrote self.old.buf.now self.old.place (numbers_bytes numbers.now) self.new.place self.new.buf.now }
-        ensures same { self.new.buf.ghost_name ≡ self.old.buf.ghost_name }
+        ensures buffer { self.new.buf.ghost_name ≡ self.old.buf.ghost_name }
     {
         for number in numbers {
             self.number(*number);
@@ -38,7 +38,7 @@ impl<'a> Pen<'a> {
     fn bytes(&mut self, bytes: &[u8])
         requires { self.old.place + length bytes.now ≤ length self.old.buf.now }
         ensures wrote { Wrote self.old.buf.now self.old.place bytes.now self.new.place self.new.buf.now }
-        ensures same { self.new.buf.ghost_name ≡ self.old.buf.ghost_name }
+        ensures buffer { self.new.buf.ghost_name ≡ self.old.buf.ghost_name }
     {
         let end = self.place + bytes.len();
         self.buf[self.place..end].copy_from_slice(bytes);
@@ -49,7 +49,7 @@ impl<'a> Pen<'a> {
         requires room { self.old.place + length (numbers_bytes (figures_of figures)) ≤ length self.old.buf.now }
         requires spells { Spells figures }
         ensures wrote { Wrote self.old.buf.now self.old.place (numbers_bytes (figures_of figures.entry)) self.new.place self.new.buf.now }
-        ensures same { self.new.buf.ghost_name ≡ self.old.buf.ghost_name }
+        ensures buffer { self.new.buf.ghost_name ≡ self.old.buf.ghost_name }
     {
         match figures {
             Figures::Encoded(bytes) => self.bytes(bytes),
@@ -62,7 +62,7 @@ impl<'a> Pen<'a> {
         requires room { self.old.place + length (reference_bytes reference.now) ≤ length self.old.buf.now }
         requires short { length reference.now ≤ 32 }
         ensures wrote { Wrote self.old.buf.now self.old.place (reference_bytes reference.now) self.new.place self.new.buf.now }
-        ensures same { self.new.buf.ghost_name ≡ self.old.buf.ghost_name }
+        ensures buffer { self.new.buf.ghost_name ≡ self.old.buf.ghost_name }
     {
         self.number(reference.len() as u32);
         self.bytes(reference);
@@ -73,7 +73,7 @@ impl<'a> Pen<'a> {
         requires short { length (reference_of turn.now.entry) ≤ 32 }
         requires spells { SpellsIn turn.now.entry }
         ensures wrote { Wrote self.old.buf.now self.old.place (item_bytes (item_of turn.now)) self.new.place self.new.buf.now }
-        ensures same { self.new.buf.ghost_name ≡ self.old.buf.ghost_name }
+        ensures buffer { self.new.buf.ghost_name ≡ self.old.buf.ghost_name }
     {
         self.numbers(lead_of(turn).as_slice());
         self.figures(figures_of(&turn.entry));

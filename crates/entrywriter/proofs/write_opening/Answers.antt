@@ -1,4 +1,5 @@
-use Rattle.std.proofs.Common.{rules, length, refl, ap, ◌∙◌, arith}
+use Rattle.std.proofs.Common.{rules, ◌^◌, length, refl, ap, ◌∙◌, subst, arith}
+use Rattle.std.specs.Int.Digits.{AllBelowBase}
 use Rattle.std.proofs.lemmas.Bool.{le-leb}
 use Rattle.market.specs.Opened.{terms_of}
 use Rattle.entryfile.specs.Items.{numbers_bytes}
@@ -12,10 +13,10 @@ pub returns : goal.returns
 returns c =
     let t = terms_of c.args.opening.now in
     let was = c.args.buf.now in
-    let bytes = ap numbers_bytes (c.as_slice.ensures.items ∙ c.head_numbers-numbers.ensures) in
-    let put = same (ap numbers_bytes (c.as_slice-2.ensures.items ∙ c.head_numbers-numbers.ensures)) c.numbers.ensures.wrote in
-    let room = le-leb (length (head_bytes t)) (length was) (omega (arith, c.if-buf-numbers_size.false, c.numbers_size.ensures.is, ap length bytes)) in
+    let said = c.as_slice-numbers.ensures.items ∙ c.head_numbers-head.ensures in
+    let put = same (ap numbers_bytes said) c.numbers.ensures.wrote in
+    let room = le-leb (length (head_bytes t)) (length was) (omega (arith, c.if-buf-numbers_size.false, c.numbers_size.ensures.is, ap (λ ns. length (numbers_bytes ns)) said)) in
     record {
       is = search (rules, wrote was (head_bytes t) _ _ _ put refl refl room);
-      rereads = head_reads_back t c.args.opening.now.in_range put;
+      rereads = head_reads_back t c.args.opening.now.in_range (subst (AllBelowBase (2 ^ 32)) said c.numbers_size.ensures.small) put;
     }
