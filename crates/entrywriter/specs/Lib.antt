@@ -1,3 +1,4 @@
 pub mod Writes
 pub mod Leads
 pub mod Spells
+pub mod Pens

@@ -10,25 +10,23 @@ pub(crate) struct Pen<'a> {
 }
 
 impl<'a> Pen<'a> {
-    ghost use Rattle.std.specs.Prelude.{◌≡◌, ◌+◌, ◌≤◌, length};
+    ghost use Rattle.std.specs.Prelude.{◌≤◌, length};
     ghost use Rattle.number.specs.Numbers.{encode};
-    ghost use Rattle.number.specs.Writes.{Wrote};
     ghost use Rattle.entryfile.specs.Items.{numbers_bytes, reference_bytes, item_bytes};
     ghost use Rattle.entryfile.specs.Views.{figures_of, reference_of, item_of};
+    ghost use Rattle.entrywriter.specs.Pens.{HasRoom, Penned};
     ghost use Rattle.entrywriter.specs.Spells.{Spells, SpellsIn};
 
     fn number(&mut self, n: u32)
-        requires { self.old.place + length (encode n) ≤ length self.old.buf.now }
-        ensures wrote { Wrote self.old.buf.now self.old.place (encode n) self.new.place self.new.buf.now }
-        ensures buffer { self.new.buf.ghost_name ≡ self.old.buf.ghost_name }
+        requires { HasRoom self.old (encode n) }
+        ensures { Penned self.old (encode n) self.new }
     {
         self.place = write_number(self.buf, self.place, n).unwrap();
     }
 
     pub(crate) fn numbers(&mut self, numbers: &[u32])
-        requires { self.old.place + length (numbers_bytes numbers.now) ≤ length self.old.buf.now }
-        ensures wrote { Wrote self.old.buf.now self.old.place (numbers_bytes numbers.now) self.new.place self.new.buf.now }
-        ensures buffer { self.new.buf.ghost_name ≡ self.old.buf.ghost_name }
+        requires { HasRoom self.old (numbers_bytes numbers.now) }
+        ensures { Penned self.old (numbers_bytes numbers.now) self.new }
     {
         for number in numbers {
             self.number(*number);
@@ -36,9 +34,8 @@ impl<'a> Pen<'a> {
     }
 
     fn bytes(&mut self, bytes: &[u8])
-        requires { self.old.place + length bytes.now ≤ length self.old.buf.now }
-        ensures wrote { Wrote self.old.buf.now self.old.place bytes.now self.new.place self.new.buf.now }
-        ensures buffer { self.new.buf.ghost_name ≡ self.old.buf.ghost_name }
+        requires { HasRoom self.old bytes.now }
+        ensures { Penned self.old bytes.now self.new }
     {
         let end = self.place + bytes.len();
         self.buf[self.place..end].copy_from_slice(bytes);
@@ -46,10 +43,9 @@ impl<'a> Pen<'a> {
     }
 
     fn figures(&mut self, figures: Figures)
-        requires room { self.old.place + length (numbers_bytes (figures_of figures)) ≤ length self.old.buf.now }
+        requires room { HasRoom self.old (numbers_bytes (figures_of figures)) }
         requires spells { Spells figures }
-        ensures wrote { Wrote self.old.buf.now self.old.place (numbers_bytes (figures_of figures.entry)) self.new.place self.new.buf.now }
-        ensures buffer { self.new.buf.ghost_name ≡ self.old.buf.ghost_name }
+        ensures { Penned self.old (numbers_bytes (figures_of figures.entry)) self.new }
     {
         match figures {
             Figures::Encoded(bytes) => self.bytes(bytes),
@@ -59,21 +55,19 @@ impl<'a> Pen<'a> {
 
     // A reference and its length before it.
     fn reference(&mut self, reference: &[u8])
-        requires room { self.old.place + length (reference_bytes reference.now) ≤ length self.old.buf.now }
+        requires room { HasRoom self.old (reference_bytes reference.now) }
         requires short { length reference.now ≤ 32 }
-        ensures wrote { Wrote self.old.buf.now self.old.place (reference_bytes reference.now) self.new.place self.new.buf.now }
-        ensures buffer { self.new.buf.ghost_name ≡ self.old.buf.ghost_name }
+        ensures { Penned self.old (reference_bytes reference.now) self.new }
     {
         self.number(reference.len() as u32);
         self.bytes(reference);
     }
 
     pub(crate) fn entry(&mut self, turn: &Turn)
-        requires room { self.old.place + length (item_bytes (item_of turn.now)) ≤ length self.old.buf.now }
+        requires room { HasRoom self.old (item_bytes (item_of turn.now)) }
         requires short { length (reference_of turn.now.entry) ≤ 32 }
         requires spells { SpellsIn turn.now.entry }
-        ensures wrote { Wrote self.old.buf.now self.old.place (item_bytes (item_of turn.now)) self.new.place self.new.buf.now }
-        ensures buffer { self.new.buf.ghost_name ≡ self.old.buf.ghost_name }
+        ensures { Penned self.old (item_bytes (item_of turn.now)) self.new }
     {
         self.numbers(lead_of(turn).as_slice());
         self.figures(figures_of(&turn.entry));

@@ -14,7 +14,7 @@ returns c =
     let t = terms_of c.args.opening.now in
     let was = c.args.buf.now in
     let said = c.as_slice-numbers.ensures.items ∙ c.head_numbers-head.ensures in
-    let put = same (ap numbers_bytes said) c.numbers.ensures.wrote in
+    let put = (same (ap numbers_bytes said) c.numbers.ensures).wrote in
     let room = le-leb (length (head_bytes t)) (length was) (omega (arith, c.if-buf-numbers_size.false, c.numbers_size.ensures.is, ap (λ ns. length (numbers_bytes ns)) said)) in
     record {
       is = search (rules, wrote was (head_bytes t) _ _ _ put refl refl room);

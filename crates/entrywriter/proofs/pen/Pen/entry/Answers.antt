@@ -4,10 +4,10 @@ use Rattle.entrywriter.proofs.Joining.{item_bytes_by_parts, item_size}
 use Rattle.entrywriter.proofs.Puts.{then, long, same}
 use Rattle.entrywriter.proofs.pen.Pen.entry.Goals as goal
 
-pub returns-clause-wrote : goal.returns-clause-wrote
-returns-clause-wrote c =
+pub returns : goal.returns
+returns c =
     same (item_bytes_by_parts c.args.turn.now _ _ _ (c.as_slice.ensures.items ∙ c.lead_of.ensures) c.figures_of.ensures.is c.reference.ensures)
-    (then (then c.numbers.ensures.wrote c.figures.ensures.wrote) c.reference-2.ensures.wrote)
+    (then (then c.numbers.ensures c.figures.ensures) c.reference-2.ensures)
 
 pub figures-requires-clause-room : goal.figures-requires-clause-room
 figures-requires-clause-room c =

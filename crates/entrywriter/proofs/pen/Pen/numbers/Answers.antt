@@ -1,4 +1,4 @@
-use Rattle.std.proofs.Common.{ap, ◌∙◌, arith}
+use Rattle.std.proofs.Common.{ap, arith}
 use Rattle.std.proofs.lemmas.List.{take_all}
 use Rattle.entryfile.specs.Items.{numbers_bytes}
 use Rattle.entrywriter.proofs.Joining.{bytes_more, room_more}
@@ -11,13 +11,7 @@ number-requires c =
     omega (arith, c.requires, w.ends, long w, room_more c.args.numbers.now c.loop-number.number-index c.loop-number-test.true)
 
 pub loop-number-preserved : goal.loop-number-preserved
-loop-number-preserved c =
-    let i = c.loop-number.invariant in
-    let w = c.number.ensures in
-    record {
-      wrote = same (bytes_more c.args.numbers.now c.loop-number.number-index c.loop-number-test.true) (then i.wrote w.wrote);
-      buffer = w.buffer ∙ i.buffer;
-    }
+loop-number-preserved c = same (bytes_more c.args.numbers.now c.loop-number.number-index c.loop-number-test.true) (then c.loop-number.invariant c.number.ensures)
 
-pub returns-clause-wrote : goal.returns-clause-wrote
-returns-clause-wrote c = same (ap numbers_bytes (take_all c.loop-number.number-index c.args.numbers.now c.loop-number-test.false)) c.loop-number.invariant.wrote
+pub returns : goal.returns
+returns c = same (ap numbers_bytes (take_all c.loop-number.number-index c.args.numbers.now c.loop-number-test.false)) c.loop-number.invariant
