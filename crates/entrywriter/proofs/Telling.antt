@@ -62,10 +62,6 @@ module _ (zones : ℕ) (families : List Family) (s : ℕ) where
   numbers_small : (e : Entry) → accepts (entry_form zones families) (numbers_of s e) ≡ true → AllBelowBase (2 ^ 32) (lead_of s e) → AllBelowBase (2 ^ 32) (numbers_of s e)
   numbers_small e a u = rw (in_parts s e) (All-append _ (lead_of s e) (figures_in e) u (figures_in_small e a))
 
--- what the ranges say, where the number of zones is known by a call
-pub at_zones : {z zones : ℕ} (families : List Family) (turn : Turn) {r : Bool} → z ≡ zones → r ≡ accepts (entry_form z families) (numbers_of turn.sender turn.entry) → r ≡ accepts (entry_form zones families) (numbers_of turn.sender turn.entry)
-at_zones families turn e h = h ∙ ap (λ z. accepts (entry_form z families) (numbers_of turn.sender turn.entry)) e
-
 module _ (zones : ℕ) (families : List Family) (turn : Turn) where
   -- a field is out of its range, or the reference is too long
   out_of_range : (r : Bool) → r ≡ accepts (entry_form zones families) (numbers_of turn.sender turn.entry) → (r ≡ false) ⊎ (32 < length (reference_of turn.entry)) → item_in_range zones families (item_of turn) ≡ false
