@@ -1,6 +1,7 @@
 -- Which figures fit a sheet.
-use Rattle.std.proofs.Common.{◌≡◌, ℕ, zero, suc, true, false, ◌&&◌, eqb, List, [], ◌∷◌, length, Ok, Err, Result, sym, refl, ap, ◌∙◌, ⊎_elim, arith}
+use Rattle.std.proofs.Common.{◌≡◌, ℕ, zero, suc, Bool, true, false, ◌&&◌, eqb, List, [], ◌∷◌, length, Ok, Err, Result, sym, refl, ap, ◌∙◌, ⊎_elim, arith}
 use Rattle.std.specs.List.{list_all}
+use Rattle.std.specs.Result.{result_eq}
 use Rattle.std.specs.Int.Digits.{AllBelowBase}
 use Rattle.std.proofs.lemmas.Bool.{cases_Bool, cases_eq, eq-eqb, ne_eqb, and_right}
 use Rattle.market.specs.Ranges.{within, limit}
@@ -16,15 +17,14 @@ module _ (count : ℕ) (bytes : List ℕ) (u : AllBelowBase 256 bytes) where
   refused : (r : Result ℕ EntryFault) → r ≡ end_of (form_at (figures_form count) bytes 0) → (Ok (length bytes) ≡ r → ⊥) → false ≡ accepts (figures_form count) (numbers_in bytes)
   refused r e n = ⊎_elim (λ a. absurd (n (figures_accept_back count bytes u a ∙ sym e))) (λ f. sym f) (cases_Bool (accepts (figures_form count) (numbers_in bytes)))
 
-  pub encoded_end : (end : ℕ) → Ok end ≡ end_of (form_at (figures_form count) bytes 0) → eqb end (length bytes) ≡ accepts (figures_form count) (numbers_in bytes)
-  encoded_end end e =
+  -- where the figures end at the end of the bytes, they are all of them; how faults are compared makes no difference
+  pub encoded_end : (same : EntryFault → EntryFault → Bool) (r : Result ℕ EntryFault) → r ≡ end_of (form_at (figures_form count) bytes 0) → result_eq eqb same r (Ok (length bytes)) ≡ accepts (figures_form count) (numbers_in bytes)
+  encoded_end same (Ok end) e =
       ⊎_elim
-      (λ same. eq-eqb end (length bytes) same ∙ sym (figures_accept count bytes u (ap Ok (sym same) ∙ e)))
+      (λ here. eq-eqb end (length bytes) here ∙ sym (figures_accept count bytes u (ap Ok (sym here) ∙ e)))
       (λ other. ne_eqb end (length bytes) other ∙ refused (Ok end) e (λ h. other (let q : end ≡ length bytes = cc in q)))
       (cases_eq end (length bytes))
-
-  pub encoded_fault : (x : EntryFault) → Err x ≡ end_of (form_at (figures_form count) bytes 0) → false ≡ accepts (figures_form count) (numbers_in bytes)
-  encoded_fault x e = refused (Err x) e (λ h. let z : ◌≡◌ {A = ℕ} 0 1 = cc in omega arith)
+  encoded_end same (Err x) e = refused (Err x) e (λ h. let z : ◌≡◌ {A = ℕ} 0 1 = cc in omega arith)
 
   pub encoded_spells : accepts (figures_form count) (numbers_in bytes) ≡ true → numbers_bytes (numbers_in bytes) ≡ bytes
   encoded_spells a = numbers_spelled bytes u (figures_small count (numbers_in bytes) a)

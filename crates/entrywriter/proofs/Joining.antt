@@ -1,68 +1,62 @@
 -- The bytes of numbers, part by part.
-use Rattle.std.proofs.Common.{◌≡◌, ℕ, ◌+◌, ◌-◌, ◌^◌, ◌<◌, List, [], ◌∷◌, ◌++◌, length, get_or, take, drop, sym, refl, ap, ◌∙◌, subst, append_assoc, arith, length-append}
+use Rattle.std.proofs.Common.{◌≡◌, ℕ, ◌+◌, ◌*◌, ◌^◌, ◌<◌, ◌≤◌, List, [], ◌∷◌, ◌++◌, length, get_or, take, drop, sym, refl, ap, ◌∙◌, append-nil, arith, length-append, take-append-drop}
 use Rattle.std.specs.Int.Digits.{AllBelowBase}
 use Rattle.std.proofs.ByRecursion.{All-from_get_or}
-use Rattle.std.proofs.lemmas.List.{at_drop_more}
+use Rattle.std.proofs.lemmas.Grind.{flat_map-append}
+use Rattle.std.proofs.lemmas.List.{take_more}
 use Rattle.number.specs.Numbers.{encode}
+use Rattle.number.proofs.Codec.{encode_few}
 use Rattle.entryfile.specs.declared.entry.Entry.{Entry}
 use Rattle.entryfile.specs.declared.entry.Entry.TheVariants.{Award, Lodge, Approve, Reject, BuyOut, Reduction, Start, Sheet, Standby, DayEnd, Test, Marking, Closing}
 use Rattle.entryfile.specs.declared.entry.Turn.{Turn}
 use Rattle.entryfile.specs.Items.{numbers_bytes, reference_bytes, item_bytes}
 use Rattle.entryfile.specs.Views.{numbers_of, reference_of, item_of}
-use Rattle.entrywriter.specs.declared.lead.Lead.{Lead}
-use Rattle.entrywriter.specs.Leads.{lead_of, lead_numbers, figures_in}
+use Rattle.entrywriter.specs.Leads.{lead_of, figures_in}
 
-pub bytes_append : (xs ys : List ℕ) → numbers_bytes (xs ++ ys) ≡ numbers_bytes xs ++ numbers_bytes ys
-bytes_append [] ys = refl
-bytes_append (x ∷ xs) ys = ap (λ l. encode x ++ l) (bytes_append xs ys) ∙ sym (append_assoc (encode x) (numbers_bytes xs) (numbers_bytes ys))
+-- one number on
+pub bytes_more : (ns : List ℕ) (i : ℕ) → i < length ns → numbers_bytes (take i ns) ++ encode (get_or ns i 0) ≡ numbers_bytes (take (i + 1) ns)
+bytes_more ns i h = sym (ap numbers_bytes (take_more ns i 0 h) ∙ flat_map-append encode (take i ns) (get_or ns i 0 ∷ []) ∙ ap (λ l. numbers_bytes (take i ns) ++ l) (append-nil (encode (get_or ns i 0))))
 
--- what is left of numbers, one number on
-pub bytes_more : (ns : List ℕ) (i : ℕ) → i < length ns → numbers_bytes (drop i ns) ≡ encode (get_or ns i 0) ++ numbers_bytes (drop (i + 1) ns)
-bytes_more ns i h = at_drop_more numbers_bytes ns i 0 h
-
-pub size_more : (ns : List ℕ) (i : ℕ) → i < length ns → length (numbers_bytes (drop i ns)) ≡ length (encode (get_or ns i 0)) + length (numbers_bytes (drop (i + 1) ns))
-size_more ns i h = ap length (bytes_more ns i h) ∙ length-append (encode (get_or ns i 0)) (numbers_bytes (drop (i + 1) ns))
+pub room_more : (ns : List ℕ) (i : ℕ) → i < length ns → length (numbers_bytes (take i ns)) + length (encode (get_or ns i 0)) ≤ length (numbers_bytes ns)
+room_more ns i h =
+    let done = numbers_bytes (take (i + 1) ns) in
+    let left = numbers_bytes (drop (i + 1) ns) in
+    let whole : done ++ left ≡ numbers_bytes ns = sym (flat_map-append encode (take (i + 1) ns) (drop (i + 1) ns)) ∙ ap numbers_bytes (take-append-drop (i + 1) ns) in
+    omega (arith, ap length whole, length-append done left, ap length (bytes_more ns i h), length-append (numbers_bytes (take i ns)) (encode (get_or ns i 0)))
 
 -- the numbers of a slice, each of which fits 32 bits
 pub under_numbers : (ns : List ℕ) → ((i : ℕ) → get_or ns i 0 < 2 ^ 32) → AllBelowBase (2 ^ 32) ns
 under_numbers ns h = All-from_get_or _ ns 0 (λ i _. h i)
 
+-- each of them takes five bytes at most
+pub size_few : (ns : List ℕ) → AllBelowBase (2 ^ 32) ns → length (numbers_bytes ns) ≤ 5 * length ns
+size_few [] u = omega arith
+size_few (n ∷ ns) u = omega (arith, encode_few n u.0, size_few ns u.1, length-append (encode n) (numbers_bytes ns))
+
 -- an entry's numbers are those before its figures, and the figures
 pub in_parts : (s : ℕ) (e : Entry) → numbers_of s e ≡ lead_of s e ++ figures_in e
-in_parts s (Award holder zone kind quantity icap capability t) = refl
-in_parts s (Lodge award holder zone kind quantity capability t) = refl
-in_parts s (Approve award t) = refl
-in_parts s (Reject award t) = refl
-in_parts s (BuyOut award quantity t) = refl
-in_parts s (Reduction award quantity t) = refl
-in_parts s (Start t) = refl
-in_parts s (Sheet award family figures t) = refl
-in_parts s (Standby award hour t) = refl
-in_parts s (DayEnd t) = refl
-in_parts s (Test award delivered t) = refl
-in_parts s (Marking award sort t) = refl
-in_parts s (Closing t) = refl
+in_parts s (Award a) = refl
+in_parts s (Lodge t) = refl
+in_parts s (Approve d) = refl
+in_parts s (Reject d) = refl
+in_parts s (BuyOut o) = refl
+in_parts s (Reduction o) = refl
+in_parts s (Start p) = refl
+in_parts s (Sheet f) = refl
+in_parts s (Standby b) = refl
+in_parts s (DayEnd p) = refl
+in_parts s (Test c) = refl
+in_parts s (Marking m) = refl
+in_parts s (Closing p) = refl
 
 -- so are their bytes
 pub bytes_in_parts : (s : ℕ) (e : Entry) → numbers_bytes (numbers_of s e) ≡ numbers_bytes (lead_of s e) ++ numbers_bytes (figures_in e)
-bytes_in_parts s e = ap numbers_bytes (in_parts s e) ∙ bytes_append (lead_of s e) (figures_in e)
+bytes_in_parts s e = ap numbers_bytes (in_parts s e) ∙ flat_map-append encode (lead_of s e) (figures_in e)
 
 -- the parts of an entry as the code holds them
-module _ (turn : Turn) (l : Lead) (lead : lead_numbers l ≡ lead_of turn.sender turn.entry) where
-  taken : take (l.count - 0) l.numbers ≡ lead_of turn.sender turn.entry
-  taken = ap (λ n. take n l.numbers) (omega arith) ∙ lead
+module _ (turn : Turn) (ns figures t : List ℕ) (ls : ns ≡ lead_of turn.sender turn.entry) (fs : figures ≡ figures_in turn.entry) (ts : t ≡ reference_of turn.entry) where
+  pub item_bytes_by_parts : (numbers_bytes ns ++ numbers_bytes figures) ++ reference_bytes t ≡ item_bytes (item_of turn)
+  item_bytes_by_parts = rw (ls, fs, ts) (sym (ap (λ bs. bs ++ reference_bytes (reference_of turn.entry)) (bytes_in_parts turn.sender turn.entry)))
 
-  -- its numbers are small where the code's numbers are
-  pub lead_small : AllBelowBase (2 ^ 32) (take (l.count - 0) l.numbers) → AllBelowBase (2 ^ 32) (lead_of turn.sender turn.entry)
-  lead_small u = subst (AllBelowBase (2 ^ 32)) taken u
-
-  module _ (figures t : List ℕ) (fs : figures ≡ figures_in turn.entry) (ts : t ≡ reference_of turn.entry) where
-    pub item_bytes_by_parts : (numbers_bytes (take (l.count - 0) l.numbers) ++ numbers_bytes figures) ++ reference_bytes t ≡ item_bytes (item_of turn)
-    item_bytes_by_parts =
-        ap (λ ns. (numbers_bytes ns ++ numbers_bytes figures) ++ reference_bytes t) taken
-        ∙ ap (λ ns. (numbers_bytes (lead_of turn.sender turn.entry) ++ numbers_bytes ns) ++ reference_bytes t) fs
-        ∙ ap (λ r. (numbers_bytes (lead_of turn.sender turn.entry) ++ numbers_bytes (figures_in turn.entry)) ++ reference_bytes r) ts
-        ∙ sym (ap (λ bs. bs ++ reference_bytes (reference_of turn.entry)) (bytes_in_parts turn.sender turn.entry))
-
-    pub item_size : length (numbers_bytes (take (l.count - 0) l.numbers)) + length (numbers_bytes figures) + (length (encode (length t)) + length t) ≡ length (item_bytes (item_of turn))
-    item_size = sym (ap length (sym item_bytes_by_parts) ∙ simp length-append)
+  pub item_size : length (numbers_bytes ns) + length (numbers_bytes figures) + (length (encode (length t)) + length t) ≡ length (item_bytes (item_of turn))
+  item_size = sym (ap length (sym item_bytes_by_parts) ∙ simp length-append)

@@ -1,7 +1,7 @@
 -- What a writer answers, by its tests.
 use Rattle.std.proofs.Common.{◌≡◌, ℕ, ◌+◌, ◌^◌, ◌<◌, ◌≤◌, Bool, true, false, ◌&&◌, leb, ◌⊎◌, List, ◌++◌, length, drop, Ok, Err, sym, ap, ◌∙◌, ⊎_elim, zero-add, arith}
 use Rattle.std.specs.List.{list_all}
-use lib.Seq.{sets-eq}
+use Rattle.std.proofs.lemmas.List.Edits.{sets-eq}
 use Rattle.std.specs.Int.Digits.{AllBelowBase}
 use Rattle.std.proofs.ByRecursion.{All-append}
 use Rattle.std.proofs.lemmas.Bool.{and_parts, and_from, and_left, and_right, le-leb, lt-leb}
@@ -38,33 +38,29 @@ short t h = and_from (leb 0 (length t)) (leb (length t) 32) (le-leb 0 (length t)
 
 module _ (zones : ℕ) (families : List Family) (s : ℕ) where
   figures_in_small : (e : Entry) → accepts (entry_form zones families) (numbers_of s e) ≡ true → AllBelowBase (2 ^ 32) (figures_in e)
-  figures_in_small (Award holder zone kind quantity icap capability t) a = tt
-  figures_in_small (Lodge award holder zone kind quantity capability t) a = tt
-  figures_in_small (Approve award t) a = tt
-  figures_in_small (Reject award t) a = tt
-  figures_in_small (BuyOut award quantity t) a = tt
-  figures_in_small (Reduction award quantity t) a = tt
-  figures_in_small (Start t) a = tt
-  figures_in_small (Sheet award family figures t) a =
-      let count = figure_count families family in
-      let fit = accepts (figures_form count) (figures_of figures) in
-      let known = is_family families family && fit in
-      let (_, b) = and_parts (within 0 999 s) (within 0 largest award && known) a in
-      let (_, d) = and_parts (within 0 largest award) known b in
-      figures_small count (figures_of figures) (and_parts (is_family families family) fit d).1
-  figures_in_small (Standby award hour t) a = tt
-  figures_in_small (DayEnd t) a = tt
-  figures_in_small (Test award delivered t) a = tt
-  figures_in_small (Marking award sort t) a = tt
-  figures_in_small (Closing t) a = tt
+  figures_in_small (Award a) h = tt
+  figures_in_small (Lodge t) h = tt
+  figures_in_small (Approve d) h = tt
+  figures_in_small (Reject d) h = tt
+  figures_in_small (BuyOut o) h = tt
+  figures_in_small (Reduction o) h = tt
+  figures_in_small (Start p) h = tt
+  figures_in_small (Sheet f) h =
+      let count = figure_count families f.family in
+      let fit = accepts (figures_form count) (figures_of f.figures) in
+      let known = is_family families f.family && fit in
+      let (_, b) = and_parts (within 0 999 s) (within 0 largest f.award && known) h in
+      let (_, d) = and_parts (within 0 largest f.award) known b in
+      figures_small count (figures_of f.figures) (and_parts (is_family families f.family) fit d).1
+  figures_in_small (Standby b) h = tt
+  figures_in_small (DayEnd p) h = tt
+  figures_in_small (Test c) h = tt
+  figures_in_small (Marking m) h = tt
+  figures_in_small (Closing p) h = tt
 
   -- the numbers of an entry fit in 32 bits where it is in range
   numbers_small : (e : Entry) → accepts (entry_form zones families) (numbers_of s e) ≡ true → AllBelowBase (2 ^ 32) (lead_of s e) → AllBelowBase (2 ^ 32) (numbers_of s e)
   numbers_small e a u = rw (in_parts s e) (All-append _ (lead_of s e) (figures_in e) u (figures_in_small e a))
-
--- what the ranges say, where the number of zones is known by a call
-pub at_zones : {z zones : ℕ} (families : List Family) (turn : Turn) {r : Bool} → z ≡ zones → r ≡ accepts (entry_form z families) (numbers_of turn.sender turn.entry) → r ≡ accepts (entry_form zones families) (numbers_of turn.sender turn.entry)
-at_zones families turn e h = h ∙ ap (λ z. accepts (entry_form z families) (numbers_of turn.sender turn.entry)) e
 
 module _ (zones : ℕ) (families : List Family) (turn : Turn) where
   -- a field is out of its range, or the reference is too long

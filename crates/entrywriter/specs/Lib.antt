@@ -1,4 +1,4 @@
 pub mod Writes
 pub mod Leads
 pub mod Spells
-pub mod Made
+pub mod Pens

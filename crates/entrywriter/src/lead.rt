@@ -1,106 +1,70 @@
 // The numbers of an entry that stand before a sheet's figures.
-ghost use Rattle.std.specs.Prelude.{◌≡◌, ◌≤◌, length};
+ghost use Rattle.std.specs.Prelude.{◌≡◌, ◌≤◌, ◌∷◌, length};
+ghost use Rattle.upto.specs.Listed.{listed};
+ghost use Rattle.entryfile.specs.Numbering.{entry_number, kind_of};
 ghost use Rattle.entryfile.specs.Views.{figures_of};
-ghost use Rattle.entrywriter.specs.Leads.{lead_of, lead_numbers, figures_in};
+ghost use Rattle.entrywriter.specs.Leads.{lead_of, figures_in};
 ghost use Rattle.entrywriter.specs.Spells.{Spells, SpellsIn};
-ghost use Rattle.entrywriter.specs.Made.{lead_with};
 
+use crate::list::append;
 use entryfile::{Entry, Figures, Turn};
+use upto::UpTo;
 
-// At most eight numbers: the entry's number, its sender and up to six fields. Only the first `count` are meant.
-#[derive(Clone, Copy)]
-pub(crate) struct Lead {
-    pub(crate) numbers: [u32; 8],
-    pub(crate) count: usize,
+// The number of an entry, its sender and these of its fields; no entry has more than six.
+fn lead(turn: &Turn, fields: &[u32]) -> UpTo<u32, 8>
+    requires { length fields.now ≤ 6 }
+    ensures { listed result ≡ entry_number (kind_of turn.now.entry) ∷ turn.now.sender ∷ fields.now }
+{
+    let mut numbers = UpTo::default();
+    append(&mut numbers, &[u32::from(turn.entry.kind()), turn.sender]);
+    append(&mut numbers, fields);
+    numbers
 }
 
-// The first `count` of the numbers.
-fn first_of(numbers: [u32; 8], count: usize) -> Lead
-    ensures { result ≡ lead_with numbers count }
+// The numbers of an entry; of a sheet, those before its figures.
+pub(crate) fn lead_of(turn: &Turn) -> UpTo<u32, 8>
+    ensures { listed result ≡ lead_of turn.now.sender turn.now.entry }
 {
-    Lead { numbers, count }
-}
-
-// The numbers of an entry that has four of them at most before its figures.
-fn short_lead(s: u32, entry: Entry) -> Lead
-    requires { length (lead_of s entry) ≤ 4 }
-    ensures is { lead_numbers result ≡ lead_of s entry.entry }
-    ensures few { result.count ≤ 8 }
-    ensures room { length result.numbers ≡ 8 }
-{
-    match entry {
-        Entry::Approve { award, .. } => first_of([3, s, award, 0, 0, 0, 0, 0], 3),
-        Entry::Reject { award, .. } => first_of([4, s, award, 0, 0, 0, 0, 0], 3),
-        Entry::BuyOut {
-            award,
-            quantity,
-            ..
-        } => first_of([5, s, award, quantity, 0, 0, 0, 0], 4),
-        Entry::Reduction {
-            award,
-            quantity,
-            ..
-        } => first_of([6, s, award, quantity, 0, 0, 0, 0], 4),
-        Entry::Start { .. } => first_of([7, s, 0, 0, 0, 0, 0, 0], 2),
-        Entry::Sheet { award, family, .. } => first_of([8, s, award, family, 0, 0, 0, 0], 4),
-        Entry::Standby { award, hour, .. } => first_of([9, s, award, hour, 0, 0, 0, 0], 4),
-        Entry::DayEnd { .. } => first_of([10, s, 0, 0, 0, 0, 0, 0], 2),
-        Entry::Test {
-            award,
-            delivered,
-            ..
-        } => first_of([11, s, award, delivered, 0, 0, 0, 0], 4),
-        Entry::Marking { award, sort, .. } => first_of(
-            [12, s, award, sort.number(), 0, 0, 0, 0],
-            4,
+    match &turn.entry {
+        Entry::Award(award) => lead(
+            turn,
+            &[
+                award.holder,
+                award.zone,
+                u32::from(award.kind),
+                award.quantity,
+                award.cleared_icap,
+                award.capability,
+            ],
         ),
-        _ => first_of([13, s, 0, 0, 0, 0, 0, 0], 2),
-    }
-}
-
-// The entry's number, its sender and its fields; of a sheet, those before its figures.
-pub(crate) fn lead_of(turn: Turn) -> Lead
-    ensures is { lead_numbers result ≡ lead_of turn.entry.sender turn.entry.entry }
-    ensures few { result.count ≤ 8 }
-    ensures room { length result.numbers ≡ 8 }
-{
-    let s = turn.sender;
-    match turn.entry {
-        Entry::Award {
-            holder,
-            zone,
-            kind,
-            quantity,
-            cleared_icap: icap,
-            capability,
-            ..
-        } => {
-            let kind = kind.number();
-            first_of([1, s, holder, zone, kind, quantity, icap, capability], 8)
-        }
-        Entry::Lodge {
-            award,
-            new_holder: holder,
-            zone,
-            kind,
-            quantity,
-            capability,
-            ..
-        } => {
-            let kind = kind.number();
-            first_of([2, s, award, holder, zone, kind, quantity, capability], 8)
-        }
-        _ => short_lead(s, turn.entry),
+        Entry::Lodge(transfer) => lead(
+            turn,
+            &[
+                transfer.award,
+                transfer.new_holder,
+                transfer.zone,
+                u32::from(transfer.kind),
+                transfer.quantity,
+                transfer.capability,
+            ],
+        ),
+        Entry::Approve(decision) | Entry::Reject(decision) => lead(turn, &[decision.award]),
+        Entry::BuyOut(off) | Entry::Reduction(off) => lead(turn, &[off.award, off.quantity]),
+        Entry::Sheet(sheet) => lead(turn, &[sheet.award, sheet.family]),
+        Entry::Standby(standby) => lead(turn, &[standby.award, standby.hour]),
+        Entry::Test(test) => lead(turn, &[test.award, test.delivered]),
+        Entry::Marking(marking) => lead(turn, &[marking.award, u32::from(marking.sort)]),
+        Entry::Start(_) | Entry::DayEnd(_) | Entry::Closing(_) => lead(turn, &[]),
     }
 }
 
 // The figures of a sheet; any other entry has none.
-pub(crate) fn figures_of<'a>(entry: Entry<'a>) -> Figures<'a>
-    ensures is { figures_of result ≡ figures_in entry.entry }
-    ensures spells { SpellsIn entry.entry → Spells result }
+pub(crate) fn figures_of<'a>(entry: &Entry<'a>) -> Figures<'a>
+    ensures is { figures_of result ≡ figures_in entry.now }
+    ensures spells { SpellsIn entry.now → Spells result }
 {
     match entry {
-        Entry::Sheet { figures, .. } => figures,
+        Entry::Sheet(sheet) => sheet.figures,
         _ => Figures::Listed(&[]),
     }
 }

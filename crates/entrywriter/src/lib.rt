@@ -9,15 +9,16 @@ ghost use Rattle.entrywriter.specs.Writes.{entry_writing, plain_writing, ReadsBa
 
 mod head;
 mod lead;
-mod put;
+mod list;
+mod pen;
 mod ranges;
 mod size;
 
-use crate::head::{head_size, put_head};
-use crate::put::put_entry;
+use crate::head::head_numbers;
+use crate::pen::Pen;
 use crate::ranges::fields_in_range;
-use crate::size::entry_size;
-use entryfile::{Turn, is_printable};
+use crate::size::{entry_size, numbers_size};
+use entryfile::{Setting, Turn, is_printable};
 use market::{Cause, Family, Fault, Opening};
 
 // Writes version 1 and the opening at the front of the buffer, and returns how many bytes they take. Where there is no
@@ -26,10 +27,14 @@ pub fn write_opening(buf: &mut [u8], opening: &Opening) -> Result<usize, Fault>
     ensures is { (result, buf.new) ≡ plain_writing (head_bytes (terms_of opening.now)) buf.old }
     ensures rereads { HeadReadsBack (terms_of opening.now) result }
 {
-    if buf.len() < head_size(opening) {
+    let head = head_numbers(opening);
+    let numbers = head.as_slice();
+    if buf.len() < numbers_size(numbers) {
         return Err(Fault::of_call(Cause::NoRoom));
     }
-    Ok(put_head(buf, opening))
+    let mut pen = Pen { buf, place: 0 };
+    pen.numbers(numbers);
+    Ok(pen.place)
 }
 
 // Writes an entry at the front of the buffer, and returns how many bytes it takes. Refusals are cause 5 (a field out of
@@ -44,15 +49,21 @@ pub fn write_entry(
     ensures is { (result, buf.new) ≡ entry_writing (zones_of (terms_of opening.now)) families.now (item_of turn.entry) buf.old }
     ensures rereads { ReadsBack (zones_of (terms_of opening.now)) families.now (item_of turn.entry) result }
 {
+    let setting = Setting {
+        zones: opening.zones(),
+        families,
+    };
     let reference = turn.entry.reference();
-    if !fields_in_range(turn, opening.zones(), families) || reference.len() > 32 {
+    if !fields_in_range(&turn, setting) || reference.len() > 32 {
         return Err(Fault::of_call(Cause::OutOfRange));
     }
     if !is_printable(reference) {
         return Err(Fault::of_call(Cause::BadText));
     }
-    if buf.len() < entry_size(turn) {
+    if buf.len() < entry_size(&turn) {
         return Err(Fault::of_call(Cause::NoRoom));
     }
-    Ok(put_entry(buf, turn))
+    let mut pen = Pen { buf, place: 0 };
+    pen.entry(&turn);
+    Ok(pen.place)
 }

@@ -16,11 +16,7 @@ pub(crate) fn numbers_size(numbers: &[u32]) -> usize
     ensures below { result + 100 < 2 ^ 64 }
     ensures small { AllBelowBase (2 ^ 32) numbers.now }
 {
-    let mut size = 0;
-    for number in numbers {
-        size += number_size(*number);
-    }
-    size
+    numbers.iter().map(|number| number_size(*number)).sum()
 }
 
 fn figures_size(figures: Figures) -> usize
@@ -34,14 +30,13 @@ fn figures_size(figures: Figures) -> usize
     }
 }
 
-pub(crate) fn entry_size(turn: Turn) -> usize
-    requires short { length (reference_of turn.entry) ≤ 32 }
-    requires spells { SpellsIn turn.entry }
-    ensures is { result ≡ length (item_bytes (item_of turn.entry)) }
-    ensures small { AllBelowBase (2 ^ 32) (lead_of turn.entry.sender turn.entry.entry) }
+pub(crate) fn entry_size(turn: &Turn) -> usize
+    requires short { length (reference_of turn.now.entry) ≤ 32 }
+    requires spells { SpellsIn turn.now.entry }
+    ensures is { result ≡ length (item_bytes (item_of turn.now)) }
+    ensures small { AllBelowBase (2 ^ 32) (lead_of turn.now.sender turn.now.entry) }
 {
-    let lead = lead_of(turn);
     let reference = turn.entry.reference();
-    let fields = numbers_size(&lead.numbers[0..lead.count]) + figures_size(figures_of(turn.entry));
+    let fields = numbers_size(lead_of(turn).as_slice()) + figures_size(figures_of(&turn.entry));
     fields + number_size(reference.len() as u32) + reference.len()
 }

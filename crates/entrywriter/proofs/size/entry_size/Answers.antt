@@ -1,13 +1,12 @@
-use Rattle.std.proofs.Common.{◌-◌, ◌≤◌, length, ap, arith, length-take}
+use Rattle.std.proofs.Common.{◌≤◌, length, ap, arith}
 use Rattle.number.proofs.Codec.{encode_few}
-use Rattle.entrywriter.proofs.Joining.{lead_small, item_size}
 use Rattle.entrywriter.proofs.size.entry_size.Goals as goal
 
 -- eight numbers at most take 40 bytes at most, and a reference 37
 few : (c : goal.After-number_size) → (c.numbers_size.result ≤ 40) × (c.number_size.result ≤ 5) × (length c.reference-reference.result.now ≤ 32)
 few c =
     let short = ap length c.reference-reference.ensures in (
-      omega (arith, c.numbers_size.ensures.few, length-take (c.lead_of-lead.result.count - 0) c.lead_of-lead.result.numbers, c.lead_of-lead.ensures.few),
+      omega (arith, c.numbers_size.ensures.few, c.as_slice.ensures.few),
       omega (arith, c.number_size.ensures, encode_few (length c.reference-reference.result.now) (omega (arith, c.requires.short))),
       omega (arith, c.requires.short),
     )
@@ -17,10 +16,3 @@ overflow_add-result c = omega (arith, few c, c.figures_size.ensures.below)
 
 pub overflow_add-result-2 : goal.overflow_add-result-2
 overflow_add-result-2 c = omega (arith, few c, c.figures_size.ensures.below)
-
-pub returns : goal.returns
-returns c =
-    record {
-      is = omega (arith, c.numbers_size.ensures.is, c.figures_size.ensures.is, c.number_size.ensures, item_size c.args.turn c.lead_of-lead.result c.lead_of-lead.ensures.is _ _ c.figures_of.ensures.is c.reference-reference.ensures);
-      small = lead_small c.args.turn c.lead_of-lead.result c.lead_of-lead.ensures.is c.numbers_size.ensures.small;
-    }
