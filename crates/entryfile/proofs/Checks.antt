@@ -24,9 +24,6 @@ ok_not_err e = let z : ◌≡◌ {A = ℕ} 0 1 = cc in omega arith
 ok_first : {n p : ℕ} {q : ℕ × ℕ} → ◌≡◌ {A = Got ℕ} (Ok (n, p)) (Ok q) → n ≡ q.0
 ok_first e = cc
 
-ok_same : {n p : ℕ} {q : ℕ × ℕ} → ◌≡◌ {A = Got ℕ} (Ok (n, p)) (Ok q) → ◌≡◌ {A = Result (ℕ × ℕ) NumberFault} (Ok (n, p)) (Ok q)
-ok_same {n} {p} {q} e = let h : (n, p) ≡ q = cc in ap Ok h
-
 module _ (fault : ℕ → EntryFault) (test : ℕ → Bool) (file : List ℕ) (at : ℕ) where
   pub check_err : {e : NumberFault} → Err e ≡ number_at file at → Err (Number e) ≡ checked_at fault test file at
   unfolding checked_at
@@ -49,18 +46,6 @@ module _ (fault : ℕ → EntryFault) (test : ℕ → Bool) (file : List ℕ) (a
       by_cases {n} (Ok q) e = ⊎_elim (λ t. ap test (ok_first (e ∙ cond-true _ _ _ t)) ∙ t) (λ f. absurd (ok_not_err (e ∙ cond-false _ _ _ f))) (cases_Bool (test q.0))
       by_cases (Err x) e = absurd (ok_not_err e)
 
-  pub check_number : {n p : ℕ} → Ok (n, p) ≡ checked_at fault test file at → Ok (n, p) ≡ number_at file at
-  unfolding checked_at
-  check_number e = by_cases (number_at file at) e
-    where
-      by_cases : {n p : ℕ} (r : Result (ℕ × ℕ) NumberFault) → Ok (n, p) ≡ checked fault test at r → Ok (n, p) ≡ r
-      by_cases (Ok q) e = ⊎_elim (λ t. ok_same (e ∙ cond-true _ _ _ t)) (λ f. absurd (ok_not_err (e ∙ cond-false _ _ _ f))) (cases_Bool (test q.0))
-      by_cases (Err x) e = absurd (ok_not_err e)
-
--- the number of a kind is in the range of the numbers
-pub named_within : {K : Type 0} (number : K → ℕ) (most n : ℕ) (k : K) → ((k : K) → within 1 most (number k) ≡ true) → number k ≡ n → within 1 most n ≡ true
-named_within number most n k known e = ap (within 1 most) (sym e) ∙ known k
-
 -- where no byte stands, there is no number and no entry
 pub number_ends : (file : List ℕ) (at : ℕ) → length file ≤ at → number_at file at ≡ Err (ends_at at)
 unfolding number_at decode decode_by
@@ -69,3 +54,6 @@ number_ends file at h = ap (λ bytes. placed at (decode bytes)) (drop_all at fil
 pub entry_ends : (zones : ℕ) (families : List Family) (file : List ℕ) (at : ℕ) → length file ≤ at → Err (Number (ends_at at)) ≡ entry_at zones families file at
 entry_ends zones families file at h =
     ap (λ r. with_reference file (after_field (λ k. form_at (number (within 0 999) (λ sender. fields_form zones families k)) file) r)) (check_err Unknown (within 1 13) file at (sym (number_ends file at h)))
+
+-- what a call that reads one number and checks it asks for
+pub ruleset checks = (check_err, check_no, check_ok, exit)

@@ -24,10 +24,6 @@ ahead-append (x ∷ xs) ys r = ap (more x) (ahead-append xs ys r)
 pub ahead_none : (ns : List ℕ) (at : ℕ) → ahead ns (Ok ([], at)) ≡ Ok (ns, at)
 ahead_none ns at = ahead-ok ns [] at ∙ ap (λ l. Ok (l, at)) (append-nil ns)
 
-ahead_then : (rest : ℕ → Got (List ℕ)) (ns : List ℕ) (r : Got (List ℕ)) → ahead ns (then_at rest r) ≡ then_at rest (ahead ns r)
-ahead_then rest [] r = refl
-ahead_then rest (n ∷ ns) r = ap (more n) (ahead_then rest ns r) ∙ then_more rest n (ahead ns r)
-
 -- one field, and then what follows: it makes no difference whether the rest stands in the form
 field_then : (k l : ℕ → ℕ → Got (List ℕ)) (rest : ℕ → Got (List ℕ)) (r : Got ℕ) → ((n p : ℕ) → k n p ≡ then_at rest (l n p)) → after_field k r ≡ then_at rest (after_field l r)
 field_then k l rest (Ok p) h = ap (more p.0) (h p.0 p.1) ∙ then_more rest p.0 (l p.0 p.1)

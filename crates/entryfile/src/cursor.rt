@@ -16,6 +16,7 @@ pub(crate) struct Cursor<'a> {
     ghost within: { place ≤ length file.now },
 }
 
+#[tactic(auto, using(crate::proofs::Checks::checks))]
 impl<'a> Cursor<'a> {
     ghost use Rattle.std.specs.Prelude.{◌≡◌, ℕ, ◌+◌, ◌<◌, ◌≤◌, length, IfOk, OnErr, MatchResult};
     ghost use Rattle.std.specs.Int.Digits.{AllBelowBase};

@@ -54,9 +54,6 @@ one_turn turns r h = ap (λ n. left_in n r) (omega arith)
 same_turns : (turns : ℕ) {zones zones' : ℕ} {families families' : List Family} {file file' : List ℕ} {p p' : Position} → zones ≡ zones' → families ≡ families' → file ≡ file' → p ≡ p' → in_turns turns zones families file p ≡ in_turns turns zones' families' file' p'
 same_turns turns z f b e = cc
 
-pub at_start : (file : List ℕ) (families : List Family) (h : Head) (r : Reader) → StandsBehind file families h r → left_of r ≡ survey_after 0 (listing_of families file h)
-at_start file families h r (b, f, o, e) = ap (λ n. left_in n r) (ap length b) ∙ same_turns (length file) (ap (λ x. zones_of (terms_of x)) o) f b e
-
 pub goes_on : (turns : ℕ) (r s : Reader) (o : Option Turn) (t : Turn) → 0 < turns → o ≡ Some t → SameSource r s → (answer_of (Ok o), position_of s) ≡ next_of r → left_in turns r ≡ left_in (turns - 1) s
 goes_on turns r s o t h is (b, f, x) e =
     one_turn turns r h
