@@ -151,6 +151,7 @@ impl<'a> Cursor<'a> {
     }
 
     // So many bytes of text, as a part of the file.
+    #[tactic(auto, unfolding(crate::specs::Items::text_at))]
     fn text(&mut self, count: usize) -> Result<&'a [u8], EntryFault>
         ensures is { bytes_view (moved result self.new) ≡ text_at count self.old.file.now self.old.place }
         ensures part { IfOk result (λ part. (length part.now ≡ count) × (self.new.place ≡ self.old.place + count)) }
@@ -171,6 +172,7 @@ impl<'a> Cursor<'a> {
     }
 
     // A reference: its length of 0 to 32, and so many printable characters, as a part of the file.
+    #[tactic(auto, using(crate::proofs::Places::reference_ends))]
     pub(crate) fn reference(&mut self) -> Result<&'a [u8], EntryFault>
         ensures is { bytes_view (moved result self.new) ≡ reference_at self.old.file.now self.old.place }
         ensures part { IfOk result (λ part. self.new.place ≡ self.old.place + length (reference_bytes part.now)) }

@@ -13,6 +13,7 @@ use market::in_range;
 use number::read_number;
 
 // A number from `low` to `high`, and the place after it.
+#[tactic(auto, using(crate::proofs::Checks::checks, crate::proofs::Places::number_size))]
 pub(crate) fn range_at(
     file: &[u8],
     at: usize,
