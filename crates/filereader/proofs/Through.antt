@@ -16,8 +16,8 @@ use Rattle.entryfile.specs.Items.{Item, entry_at}
 use Rattle.entryfile.specs.Files.{Listing, listing, go_on, entries_by, head_bytes, items_bytes, file_bytes, zones_of}
 use Rattle.entryfile.specs.Views.{item_of}
 use Rattle.entryfile.specs.Steps.{Answer, Position, position, step_by, fault_of, answer_of}
-use Rattle.filereader.specs.Readers.{StandsBehind, SameSource, file_of, families_of, zones_in, position_of, next_of}
-use Rattle.filereader.specs.Surveys.{left_of, survey_after, listing_of, WholeFileWrites, WholeFileReads}
+use Rattle.filereader.specs.Readers.{SameSource, file_of, families_of, zones_in, position_of, next_of}
+use Rattle.filereader.specs.Surveys.{survey_after, listing_of, WholeFileWrites, WholeFileReads}
 use Rattle.entryfile.proofs.Reading.{entries_read}
 use Rattle.entryfile.proofs.Writing.{entries_write}
 
