@@ -1,5 +1,6 @@
 // A place in an entry file, and reading the field that begins there: a number with its range, a kind, a family, figures,
-// a reference. Each call moves the cursor behind what it read; a number with a fault leaves it where it was.
+// a reference. Each call moves the cursor behind what it read; a number with a fault leaves it where it was. The calls
+// for numbers differ in what they test: one call that is lent the test would have a longer contract than all of them.
 ghost use Rattle.std.specs.Prelude.{◌≤◌, length};
 
 use crate::entry::EntryKind;

@@ -175,7 +175,8 @@ fn turn<'a>(cursor: &mut Cursor<'a>, setting: Setting<'_>) -> Result<Turn<'a>, E
     Ok(Turn { sender, entry })
 }
 
-// The entry at a place with its sender, and the place after it. What was read can be written again, byte for byte.
+// The entry at a place with its sender, and the place after it. What was read can be written again, byte for byte. It
+// takes any place, also one behind the end of the file, where no cursor stands.
 pub fn turn_at<'a>(
     file: &'a [u8],
     at: usize,

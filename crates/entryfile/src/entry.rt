@@ -211,6 +211,7 @@ impl<'a> Entry<'a> {
 // An entry with its sender: 0 is the operator, 1 to 999 are holders.
 #[derive(Clone, Copy)]
 pub struct Turn<'a> {
+    // a number and no enum: a caller may hand over any, and the writer refuses it
     pub sender: u32,
     pub entry: Entry<'a>,
 }

@@ -1,4 +1,4 @@
-// Reading numbers from a place of a file on.
+// Reading numbers from a place of a file on: any place, also behind its end, where no cursor stands.
 ghost use Rattle.std.specs.Prelude.{◌≡◌, ◌+◌, ◌<◌, ◌≤◌, length, IfOk, Ok};
 ghost use Rattle.std.specs.List.{between};
 ghost use Rattle.number.specs.Numbers.{encode};
@@ -38,6 +38,7 @@ pub fn figures_end(file: &[u8], at: usize, count: usize) -> Result<usize, EntryF
     ensures spelled { at ≤ length file.now → IfOk result (λ p. Ok (numbers_in (between at p file.now), p) ≡ form_at (figures_form count) file.now at) }
 {
     let mut next = at;
+    // each figure begins where the one before it ends, so a chain of iterators would carry the place as this loop does
     for _figure in 0..count {
         let (_, after) = range_at(file, next, 0, 100_000)?;
         next = after;

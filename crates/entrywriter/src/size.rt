@@ -1,4 +1,5 @@
-// How many bytes numbers, figures and entries take.
+// How many bytes numbers, figures and entries take. It is known before the first byte is written, since a refusal leaves
+// the buffer as it was; so sizes and writing go over the same parts.
 ghost use Rattle.std.specs.Prelude.{◌≡◌, ◌+◌, ◌*◌, ◌^◌, ◌<◌, ◌≤◌, length};
 ghost use Rattle.std.specs.Int.Digits.{AllBelowBase};
 ghost use Rattle.entryfile.specs.Items.{numbers_bytes, item_bytes};

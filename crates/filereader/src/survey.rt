@@ -9,6 +9,7 @@ use market::{Family, Fault};
 // How many entries are read whole, and the fault that ends the reading, if there is one.
 #[derive(Clone, Copy)]
 pub struct Survey {
+    // told with a fault and without one, so this is no Result
     pub entries: usize,
     pub fault: Option<Fault>,
 }

@@ -1,4 +1,5 @@
-// The same program on a file of just 65,536 bytes.
+// The same program on a file of just 65,536 bytes. A crate is run on one input, so each input has
+// a crate of its own.
 #![tactic(auto)]
 
 use std::io;

@@ -5,6 +5,7 @@ ghost use Rattle.market.specs.Families.{figures_for, sheet_figures};
 // A family of the book: its number, and how many figures an hour record of its sheets has.
 #[derive(Clone, Copy, Debug, PartialEq)]
 pub struct Family {
+    // a number and no enum: which families there are is for the book to say, and a list may have any
     pub number: u32,
     pub figures_per_hour: u8,
 }

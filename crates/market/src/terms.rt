@@ -22,6 +22,7 @@ pub struct OpeningTerms {
     pub pass_mark: u32,
 }
 
+// Months and prices are tested by a line each: what a function for both would share stands in `all`.
 fn months_in_range(months: &[Month]) -> bool
     ensures { result ≡ list_all month_in_range months.now }
 {

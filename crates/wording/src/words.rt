@@ -32,6 +32,7 @@ impl fmt::Display for Megawatts {
     }
 }
 
+// The tables below give the constant text that belongs to a value; a `Display` of it would be the same table.
 pub(crate) fn kind_name(kind: Kind) -> &'static str
     ensures { result.now ≡ kind_name kind }
 {
