@@ -1,5 +1,5 @@
 // The terms of an opening, and whether they are in their ranges.
-ghost use Rattle.std.specs.Prelude.{◌≡◌};
+ghost use Rattle.std.specs.Prelude.{◌≡◌, ◌&&◌};
 ghost use Rattle.std.specs.List.{list_all};
 ghost use Rattle.market.specs.Ranges.{within, limit};
 ghost use Rattle.market.specs.Openings.{said, terms_in_range, month_in_range, calendar_fits, prices_fit};
@@ -35,14 +35,20 @@ fn prices_in_range(prices: &[u32]) -> bool
     prices.iter().all(|price| in_range(*price, 0, 100_000))
 }
 
+// The availability window: hours of the day, the first not after the last.
+fn window_in_range(first_hour: u32, last_hour: u32) -> bool
+    ensures { result ≡ (within 1 24 first_hour && within first_hour 24 last_hour) }
+{
+    in_range(first_hour, 1, 24) && in_range(last_hour, first_hour, 24)
+}
+
 fn calendar_in_range(months: &[Month], first_hour: u32, last_hour: u32) -> bool
     ensures { result ≡ calendar_fits months.now first_hour last_hour }
 {
     !months.is_empty()
         && months.len() <= 6
         && months_in_range(months)
-        && in_range(first_hour, 1, 24)
-        && in_range(last_hour, first_hour, 24)
+        && window_in_range(first_hour, last_hour)
 }
 
 fn prices_and_shares_in_range(prices: &[u32], buyout_rate: u32, pass_mark: u32) -> bool
