@@ -12,7 +12,7 @@ ghost use Rattle.entryfile.specs.Steps.{FromFile};
 
 use crate::cursor::Cursor;
 use crate::entry::{
-    CapabilityTest, Decision, Entry, EntryKind, Figures, Marking, NewAward, Plain, Sheet, Standby,
+    CapacityTest, Decision, Entry, EntryKind, Figures, Marking, NewAward, Plain, Sheet, Standby,
     TakeOff, Transfer, Turn,
 };
 use crate::fault::EntryFault;
@@ -109,10 +109,10 @@ fn standby<'a>(cursor: &mut Cursor<'a>) -> Result<Standby<'a>, EntryFault>
     })
 }
 
-fn capability_test<'a>(cursor: &mut Cursor<'a>) -> Result<CapabilityTest<'a>, EntryFault>
+fn capacity_test<'a>(cursor: &mut Cursor<'a>) -> Result<CapacityTest<'a>, EntryFault>
     ensures { (s : ℕ) → item_view (λ c. entry_item s (entries.Test c)) (moved result cursor.new) ≡ entry_with (11 ∷ s ∷ []) test_form cursor.old.file.now cursor.old.place }
 {
-    Ok(CapabilityTest {
+    Ok(CapacityTest {
         award: cursor.award()?,
         delivered: cursor.range(0, 100_000)?,
         reference: cursor.reference()?,
@@ -158,7 +158,7 @@ fn entry<'a>(
         EntryKind::Sheet => sheet(cursor, setting.families).map(Entry::Sheet),
         EntryKind::Standby => standby(cursor).map(Entry::Standby),
         EntryKind::DayEnd => plain(cursor).map(Entry::DayEnd),
-        EntryKind::Test => capability_test(cursor).map(Entry::Test),
+        EntryKind::Test => capacity_test(cursor).map(Entry::Test),
         EntryKind::Marking => marking(cursor).map(Entry::Marking),
         EntryKind::Closing => plain(cursor).map(Entry::Closing),
     }

@@ -130,7 +130,7 @@ pub struct Standby<'a> {
 
 // A test of an award's capability, and what it delivered.
 #[derive(Clone, Copy)]
-pub struct CapabilityTest<'a> {
+pub struct CapacityTest<'a> {
     pub award: u32,
     pub delivered: u32,
     pub reference: &'a [u8],
@@ -163,7 +163,7 @@ pub enum Entry<'a> {
     Sheet(Sheet<'a>),
     Standby(Standby<'a>),
     DayEnd(Plain<'a>),
-    Test(CapabilityTest<'a>),
+    Test(CapacityTest<'a>),
     Marking(Marking<'a>),
     Closing(Plain<'a>),
 }

@@ -12,7 +12,7 @@ mod text;
 
 pub use entries::{Setting, turn_at};
 pub use entry::{
-    CapabilityTest, Decision, Entry, EntryKind, Figures, Marking, NewAward, Plain, Sheet, Standby,
+    CapacityTest, Decision, Entry, EntryKind, Figures, Marking, NewAward, Plain, Sheet, Standby,
     TakeOff, Transfer, Turn,
 };
 pub use fault::EntryFault;

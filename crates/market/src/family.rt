@@ -28,7 +28,7 @@ pub const FAMILIES: [Family; 3] = [
 
 impl Family {
     // How many figures a sheet of the family has: 24 hour records.
-    pub fn figures_in_sheet(&self) -> usize
+    pub fn sheet_figures(&self) -> usize
         ensures { result ≡ sheet_figures self.now }
     {
         24 * self.figures_per_hour as usize
@@ -42,5 +42,5 @@ pub fn figures_in_sheet(families: &[Family], number: u32) -> Option<usize>
     families
         .iter()
         .find(|family| family.number == number)
-        .map(|family| family.figures_in_sheet())
+        .map(|family| family.sheet_figures())
 }

@@ -6,7 +6,7 @@ ghost use Rattle.wording.specs.Lines.{kind_text, holding_text, fields_text, head
 
 use crate::words::{Megawatts, cause_meaning, entry_name, kind_name, mark_name};
 use entryfile::{
-    CapabilityTest, Decision, Entry, Marking, NewAward, Sheet, Standby, Transfer, Turn,
+    CapacityTest, Decision, Entry, Marking, NewAward, Sheet, Standby, Transfer, Turn,
 };
 use market::{Cause, Fault, Kind};
 use std::fmt;
@@ -107,7 +107,7 @@ impl fmt::Display for InWords<&Entry<'_>> {
                 write!(f, "award {award}, from hour {hour}")
             }
             Entry::Test(
-                CapabilityTest {
+                CapacityTest {
                     award,
                     delivered,
                     ..
