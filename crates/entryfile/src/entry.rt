@@ -72,7 +72,7 @@ pub enum Figures<'a> {
     Listed(&'a [u32]),
 }
 
-// A new award, in tenths of a megawatt.
+// A new award; its quantity, cleared ICAP and capability are tenths of a megawatt.
 #[derive(Clone, Copy)]
 pub struct NewAward<'a> {
     pub holder: u32,
@@ -128,7 +128,7 @@ pub struct Standby<'a> {
     pub reference: &'a [u8],
 }
 
-// A test of an award's capability, and what it delivered.
+// A capacity test of an award, and what it delivered.
 #[derive(Clone, Copy)]
 pub struct CapacityTest<'a> {
     pub award: u32,
