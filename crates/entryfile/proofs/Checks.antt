@@ -1,5 +1,5 @@
 -- How one number is read and checked.
-use Rattle.std.proofs.Common.{◌≡◌, ℕ, Bool, true, false, List, length, ◌≤◌, IsErrAnd, Ok, Err, Result, sym, ap, ◌∙◌, ⊎_elim, arith}
+use Rattle.std.proofs.Common.{◌≡◌, ℕ, Bool, true, false, List, length, ◌≤◌, IsErrAnd, Ok, Err, Result, refl, sym, ap, ◌∙◌, ⊎_elim, arith}
 use Rattle.std.proofs.lemmas.Result.{err_from_is_err_and}
 use Rattle.std.proofs.lemmas.List.{drop_all}
 use Rattle.std.proofs.lemmas.Bool.{cond-true, cond-false, cases_Bool}
@@ -36,6 +36,15 @@ module _ (fault : ℕ → EntryFault) (test : ℕ → Bool) (file : List ℕ) (a
   pub check_ok : {n p : ℕ} → Ok (n, p) ≡ number_at file at → test n ≡ true → Ok (n, p) ≡ checked_at fault test file at
   unfolding checked_at
   check_ok e t = sym (cond-true _ _ _ t) ∙ ap (checked fault test at) e
+
+  -- the fault is always one of the place
+  pub fault_here : checked_at (λ _. fault at) test file at ≡ checked_at fault test file at
+  unfolding checked_at
+  fault_here = same (number_at file at)
+    where
+      same : (r : Result (ℕ × ℕ) NumberFault) → checked (λ _. fault at) test at r ≡ checked fault test at r
+      same (Ok p) = refl
+      same (Err e) = refl
 
   -- what was read passed the test
   pub check_passed : {n p : ℕ} → Ok (n, p) ≡ checked_at fault test file at → test n ≡ true

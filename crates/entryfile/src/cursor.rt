@@ -19,15 +19,14 @@ pub(crate) struct Cursor<'a> {
 
 #[tactic(auto, using(crate::proofs::Checks::checks))]
 impl<'a> Cursor<'a> {
-    ghost use Rattle.std.specs.Prelude.{◌≡◌, ℕ, ◌+◌, ◌<◌, ◌≤◌, length, IfOk, OnErr, MatchResult};
-    ghost use Rattle.std.specs.Int.Digits.{AllBelowBase};
+    ghost use Rattle.std.specs.Prelude.{◌≡◌, ◌+◌, ◌<◌, ◌≤◌, length, IfOk, OnErr, MatchResult};
     ghost use Rattle.std.specs.List.{between};
     ghost use Rattle.number.specs.Numbers.{encode};
     ghost use Rattle.market.specs.Ranges.{within, largest};
     ghost use Rattle.market.specs.Kinds.{kind_number, capability_fits};
     ghost use Rattle.market.specs.Families.{is_family, figure_count};
     ghost use Rattle.entryfile.specs.declared.fault.EntryFault.TheVariants.{Number, Unknown, OutOfRange};
-    ghost use Rattle.entryfile.specs.Forms.{checked_at, form_at, end_of};
+    ghost use Rattle.entryfile.specs.Forms.{checked_at, form_at};
     ghost use Rattle.entryfile.specs.Layout.{figures_form};
     ghost use Rattle.entryfile.specs.Items.{reference_at, reference_bytes, text_at};
     ghost use Rattle.entryfile.specs.Views.{numbered_view, bytes_view, figures_view, family_view};
@@ -73,41 +72,45 @@ impl<'a> Cursor<'a> {
         Ok(n)
     }
 
-    // An entry number; one that is not known is a fault of its own.
-    pub(crate) fn entry_kind(&mut self) -> Result<EntryKind, EntryFault>
-        ensures is { numbered_view entry_number (moved result self.new) ≡ checked_at Unknown (within 1 13) self.old.file.now self.old.place }
-        ensures file { SameFile self.old self.new }
-        ensures stays { OnErr result (self.new ≡ self.old) }
-    {
-        let (n, next) = read_number(self.file, self.place)?;
-        let Ok(kind) = EntryKind::try_from(n) else {
-            return Err(EntryFault::Unknown(self.place));
-        };
-        self.place = next;
-        Ok(kind)
-    }
-
     // The number of an award: any number, since the book says which awards there are.
     pub(crate) fn award(&mut self) -> Result<u32, EntryFault>
         ensures is { moved result self.new ≡ checked_at OutOfRange (within 0 largest) self.old.file.now self.old.place }
         ensures file { SameFile self.old self.new }
         ensures stays { OnErr result (self.new ≡ self.old) }
     {
-        self.range(0, 4_294_967_295)
+        self.range(0, u32::MAX)
     }
 
-    // The number of one of a sort of kinds, as a kind of resource or the sort of a mark.
-    pub(crate) fn numbered<K: Numbered>(&mut self) -> Result<K, EntryFault>
-        ensures is { numbered_view K.number_of (moved result self.new) ≡ checked_at OutOfRange (within 1 K.most) self.old.file.now self.old.place }
+    // The number of one of a sort of kinds; any other number is the fault.
+    fn known<K: Numbered>(&mut self, fault: EntryFault) -> Result<K, EntryFault>
+        ensures is { numbered_view K.number_of (moved result self.new) ≡ checked_at (λ _. fault) (within 1 K.most) self.old.file.now self.old.place }
         ensures file { SameFile self.old self.new }
         ensures stays { OnErr result (self.new ≡ self.old) }
     {
         let (n, next) = read_number(self.file, self.place)?;
         let Ok(kind) = K::try_from(n) else {
-            return Err(EntryFault::OutOfRange(self.place));
+            return Err(fault);
         };
         self.place = next;
         Ok(kind)
+    }
+
+    // A kind of resource, or the sort of a mark.
+    pub(crate) fn numbered<K: Numbered>(&mut self) -> Result<K, EntryFault>
+        ensures is { numbered_view K.number_of (moved result self.new) ≡ checked_at OutOfRange (within 1 K.most) self.old.file.now self.old.place }
+        ensures file { SameFile self.old self.new }
+        ensures stays { OnErr result (self.new ≡ self.old) }
+    {
+        self.known(EntryFault::OutOfRange(self.place))
+    }
+
+    // A kind of entry; a number that names none is a fault of its own.
+    pub(crate) fn entry_kind(&mut self) -> Result<EntryKind, EntryFault>
+        ensures is { numbered_view entry_number (moved result self.new) ≡ checked_at Unknown (within 1 13) self.old.file.now self.old.place }
+        ensures file { SameFile self.old self.new }
+        ensures stays { OnErr result (self.new ≡ self.old) }
+    {
+        self.known(EntryFault::Unknown(self.place))
     }
 
     // A registered capability that fits the kind.

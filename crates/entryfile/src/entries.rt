@@ -1,13 +1,12 @@
 // Reading one entry: its number, its sender, the fields that its kind has, and its reference.
-ghost use Rattle.std.specs.Prelude.{◌≡◌, ℕ, ◌≤◌, List, [], ◌∷◌, ◌++◌, length, IfOk};
-ghost use Rattle.market.specs.Ranges.{within};
+ghost use Rattle.std.specs.Prelude.{◌≡◌, ℕ, ◌≤◌, [], ◌∷◌, length, IfOk};
 ghost use Rattle.entryfile.specs.Forms.{done};
 ghost use Rattle.entryfile.specs.declared.entry.Entry.TheVariants as entries;
 ghost use Rattle.entryfile.specs.Layout.{award_form, lodge_form, named_form, take_off_form, sheet_form, standby_form, test_form, mark_form, fields_form};
 ghost use Rattle.entryfile.specs.Items.{item, entry_with, entry_at};
 ghost use Rattle.entryfile.specs.Views.{entry_item, entry_view, item_view, turn_view, FiguresStand, SheetStands};
 ghost use Rattle.entryfile.specs.Numbering.{entry_number};
-ghost use Rattle.entryfile.specs.Cursors.{moved, SameFile};
+ghost use Rattle.entryfile.specs.Cursors.{moved};
 ghost use Rattle.entryfile.specs.Steps.{FromFile};
 
 use crate::cursor::Cursor;
@@ -18,7 +17,7 @@ use crate::entry::{
 use crate::fault::EntryFault;
 use market::Family;
 
-// What a reader must know of a book: how many zones it has, and its families.
+// What a reader or a writer must know of a book: how many zones it has, and its families.
 #[derive(Clone, Copy)]
 pub struct Setting<'a> {
     pub zones: u32,

@@ -27,28 +27,30 @@ impl From<NumberFault> for EntryFault {
     }
 }
 
-impl EntryFault {
-    // The cause by which the refusal table knows the fault.
-    fn cause(self) -> Cause
-        ensures { result ≡ cause_of self }
-    {
-        match self {
+// The cause by which the refusal table knows the fault.
+impl From<EntryFault> for Cause {
+    ghost from_gives = { λ fault cause. cause ≡ cause_of fault };
+
+    fn from(fault: EntryFault) -> Cause {
+        match fault {
             EntryFault::Number(fault) => Cause::from(fault.cause),
             EntryFault::Unknown(_) => Cause::Unknown,
             EntryFault::OutOfRange(_) => Cause::OutOfRange,
             EntryFault::BadText(_) => Cause::BadText,
         }
     }
+}
 
+impl EntryFault {
     // The byte where the faulty part begins.
     fn place(self) -> usize
         ensures { result ≡ place_of self }
     {
         match self {
             EntryFault::Number(fault) => fault.place,
-            EntryFault::Unknown(place) => place,
-            EntryFault::OutOfRange(place) => place,
-            EntryFault::BadText(place) => place,
+            EntryFault::Unknown(place)
+            | EntryFault::OutOfRange(place)
+            | EntryFault::BadText(place) => place,
         }
     }
 
@@ -57,7 +59,7 @@ impl EntryFault {
         ensures { result ≡ fault_of entry self }
     {
         Fault {
-            cause: self.cause(),
+            cause: Cause::from(self),
             entry,
             place: self.place(),
         }

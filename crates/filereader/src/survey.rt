@@ -1,15 +1,15 @@
 // Reading a whole file.
-ghost use Rattle.std.specs.Prelude.{◌≡◌, ℕ};
+ghost use Rattle.std.specs.Prelude.{◌≡◌};
 ghost use Rattle.filereader.specs.Surveys.{told, left_of, survey_after, listing_of, WholeFileWrites, WholeFileReads};
 
 use crate::reader::Reader;
 use entryfile::Head;
 use market::{Family, Fault};
 
-// How many entries are read whole, and the fault that ends the reading, if there is one.
+// How many entries are read whole, and the fault that ends the reading, if there is one. The count is told with a fault
+// and without one, so this is no Result.
 #[derive(Clone, Copy)]
 pub struct Survey {
-    // told with a fault and without one, so this is no Result
     pub entries: usize,
     pub fault: Option<Fault>,
 }

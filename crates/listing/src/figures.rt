@@ -13,7 +13,7 @@ fn hour_figures(
 ) -> Result<(String, usize), AllocError> {
     let mut figures = String::new(heap);
     let mut next = at;
-    // each figure begins where the one before it ends
+    // each figure begins where the one before it ends, so a chain of iterators would carry the place as this loop does
     for _figure in 0..width {
         let (figure, after) = read_number(bytes, next).unwrap_or((0, next));
         write!(figures, " {}", Tenths(figure))?;
@@ -36,7 +36,7 @@ fn print_line(rt: &HostRuntime, first: u32, last: u32, figures: &str) -> io::Res
 pub(crate) fn print_hours(rt: &HostRuntime, bytes: &[u8], width: usize) -> io::Result<()> {
     let (mut same, mut next) = hour_figures(rt.alloc(), bytes, 0, width)?;
     let mut first = 1;
-    // the hour is what is printed
+    // the hour is what is printed, and every hour but the first is compared with those before it
     for hour in 2..=24 {
         let (figures, after) = hour_figures(rt.alloc(), bytes, next, width)?;
         if figures.as_str() != same.as_str() {

@@ -23,7 +23,8 @@ pub use opening::Opening;
 pub use refusal::{Cause, Fault, Layer};
 pub use terms::OpeningTerms;
 
-// Whether a number lies from `low` to `high`, both included.
+// Whether a number lies from `low` to `high`, both included. The two are parameters and no range of std's, whose contract
+// speaks of comparisons and of an iterator's state.
 pub fn in_range(n: u32, low: u32, high: u32) -> bool
     ensures { result ≡ within low high n }
 {

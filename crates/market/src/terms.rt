@@ -1,6 +1,7 @@
 // The terms of an opening, and whether they are in their ranges.
 ghost use Rattle.std.specs.Prelude.{◌≡◌, ◌&&◌};
 ghost use Rattle.std.specs.List.{list_all};
+ghost use Rattle.upto.specs.Listed.{listed};
 ghost use Rattle.market.specs.Ranges.{within, limit};
 ghost use Rattle.market.specs.Openings.{said, terms_in_range, month_in_range, calendar_fits, prices_fit};
 
@@ -42,31 +43,30 @@ fn window_in_range(first_hour: u32, last_hour: u32) -> bool
     in_range(first_hour, 1, 24) && in_range(last_hour, first_hour, 24)
 }
 
-fn calendar_in_range(months: &[Month], first_hour: u32, last_hour: u32) -> bool
-    ensures { result ≡ calendar_fits months.now first_hour last_hour }
-{
-    !months.is_empty()
-        && months.len() <= 6
-        && months_in_range(months)
-        && window_in_range(first_hour, last_hour)
-}
-
-fn prices_and_shares_in_range(prices: &[u32], buyout_rate: u32, pass_mark: u32) -> bool
-    ensures { result ≡ prices_fit prices.now buyout_rate pass_mark }
-{
-    !prices.is_empty()
-        && prices.len() <= 10
-        && prices_in_range(prices)
-        && in_range(buyout_rate, 0, 100)
-        && in_range(pass_mark, 1, 100)
-}
-
 impl OpeningTerms {
+    fn calendar_is_in_range(&self) -> bool
+        ensures { result ≡ calendar_fits (listed self.now.months) self.now.first_hour self.now.last_hour }
+    {
+        let months = self.months.as_slice();
+        !months.is_empty()
+            && months_in_range(months)
+            && window_in_range(self.first_hour, self.last_hour)
+    }
+
+    fn prices_and_shares_are_in_range(&self) -> bool
+        ensures { result ≡ prices_fit (listed self.now.prices) self.now.buyout_rate self.now.pass_mark }
+    {
+        let prices = self.prices.as_slice();
+        !prices.is_empty()
+            && prices_in_range(prices)
+            && in_range(self.buyout_rate, 0, 100)
+            && in_range(self.pass_mark, 1, 100)
+    }
+
     // Whether each term is in its range.
     pub(crate) fn is_in_range(&self) -> bool
         ensures { result ≡ terms_in_range (said self.now) }
     {
-        calendar_in_range(self.months.as_slice(), self.first_hour, self.last_hour)
-            && prices_and_shares_in_range(self.prices.as_slice(), self.buyout_rate, self.pass_mark)
+        self.calendar_is_in_range() && self.prices_and_shares_are_in_range()
     }
 }

@@ -25,7 +25,7 @@ pub struct NumberFault {
     pub place: usize,
 }
 
-// The number that begins at `at`, and the place after it.
+// The number that begins at `at`, any place, and the place after it.
 #[tactic(auto, using(crate::proofs::Turns::placings))]
 pub fn read_number(file: &[u8], at: usize) -> Result<(u32, usize), NumberFault>
     ensures is { result ≡ number_at file.now at }
@@ -75,7 +75,8 @@ pub fn number_size(n: u32) -> usize
     n.max(1).ilog2() as usize / 7 + 1
 }
 
-// Writes `n` from `at` on and returns the place after it; where there is no room, none, and the buffer is as it was.
+// Writes `n` from `at` on, any place, and returns the place after it; where there is no room, none, and the buffer is as
+// it was.
 #[tactic(auto, using(crate::proofs::Writes::writings))]
 pub fn write_number(buf: &mut [u8], at: usize, n: u32) -> Option<usize>
     ensures wrote { MatchOption result ((length buf.old < at + length (encode n)) × (buf.new ≡ buf.old)) (λ p. Wrote buf.old at (encode n) p buf.new) }

@@ -2,9 +2,6 @@
 // period, such a list is plain data, made without an allocator.
 #![tactic(auto)]
 
-ghost use Rattle.std.specs.Prelude.{◌≡◌, ◌<◌, MatchResult};
-ghost use Rattle.upto.specs.Listed.{listed};
-
 mod list;
 
 pub use list::{TooMany, UpTo};

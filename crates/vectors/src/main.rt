@@ -32,7 +32,8 @@ impl fmt::Display for Outcome {
     }
 }
 
-// The value of a hexadecimal digit of either case; none for any other byte.
+// The value of a hexadecimal digit of either case; none for any other byte. std's `to_digit` speaks of characters and of
+// 32 bits, so that a byte would be turned into one and its digit back.
 fn digit(b: u8) -> Option<u8>
     ensures is { result ≡ digit_of b }
     ensures small { IfSome result (λ d. d < 16) }
