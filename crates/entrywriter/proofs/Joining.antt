@@ -53,10 +53,10 @@ in_parts s (Closing p) = refl
 pub bytes_in_parts : (s : ℕ) (e : Entry) → numbers_bytes (numbers_of s e) ≡ numbers_bytes (lead_of s e) ++ numbers_bytes (figures_in e)
 bytes_in_parts s e = ap numbers_bytes (in_parts s e) ∙ flat_map-append encode (lead_of s e) (figures_in e)
 
--- the parts of an entry as the code holds them
-module _ (turn : Turn) (ns figures t : List ℕ) (ls : ns ≡ lead_of turn.sender turn.entry) (fs : figures ≡ figures_in turn.entry) (ts : t ≡ reference_of turn.entry) where
-  pub item_bytes_by_parts : (numbers_bytes ns ++ numbers_bytes figures) ++ reference_bytes t ≡ item_bytes (item_of turn)
-  item_bytes_by_parts = rw (ls, fs, ts) (sym (ap (λ bs. bs ++ reference_bytes (reference_of turn.entry)) (bytes_in_parts turn.sender turn.entry)))
+-- the parts of an entry, its numbers as the code holds them
+module _ (turn : Turn) (ns : List ℕ) (ls : ns ≡ lead_of turn.sender turn.entry) where
+  pub item_bytes_by_parts : (numbers_bytes ns ++ numbers_bytes (figures_in turn.entry)) ++ reference_bytes (reference_of turn.entry) ≡ item_bytes (item_of turn)
+  item_bytes_by_parts = rw ls (sym (ap (λ bs. bs ++ reference_bytes (reference_of turn.entry)) (bytes_in_parts turn.sender turn.entry)))
 
-  pub item_size : length (numbers_bytes ns) + length (numbers_bytes figures) + (length (encode (length t)) + length t) ≡ length (item_bytes (item_of turn))
+  pub item_size : length (numbers_bytes ns) + length (numbers_bytes (figures_in turn.entry)) + length (reference_bytes (reference_of turn.entry)) ≡ length (item_bytes (item_of turn))
   item_size = sym (ap length (sym item_bytes_by_parts) ∙ simp length-append)

@@ -7,6 +7,7 @@ ghost use Rattle.entryfile.specs.Views.{item_of};
 ghost use Rattle.entryfile.specs.Files.{head_bytes, zones_of};
 ghost use Rattle.entrywriter.specs.Writes.{entry_writing, plain_writing, ReadsBack, HeadReadsBack};
 
+mod checked;
 mod head;
 mod lead;
 mod list;
@@ -14,9 +15,9 @@ mod pen;
 mod ranges;
 mod size;
 
+use crate::checked::Checked;
 use crate::head::head_numbers;
 use crate::pen::Pen;
-use crate::ranges::fields_in_range;
 use crate::size::{entry_size, numbers_size};
 use entryfile::{Setting, Turn, is_printable};
 use market::{Cause, Family, Fault, Opening};
@@ -53,17 +54,16 @@ pub fn write_entry(
         zones: opening.zones(),
         families,
     };
-    let reference = turn.entry.reference();
-    if !fields_in_range(&turn, setting) || reference.len() > 32 {
+    let Some(entry) = Checked::new(turn, setting) else {
         return Err(Fault::of_call(Cause::OutOfRange));
-    }
-    if !is_printable(reference) {
+    };
+    if !is_printable(turn.entry.reference()) {
         return Err(Fault::of_call(Cause::BadText));
     }
-    if buf.len() < entry_size(&turn) {
+    if buf.len() < entry_size(&entry) {
         return Err(Fault::of_call(Cause::NoRoom));
     }
     let mut pen = Pen { buf, place: 0 };
-    pen.entry(&turn);
+    pen.entry(&entry);
     Ok(pen.place)
 }

@@ -1,6 +1,7 @@
 // A place in a buffer, and writing what has room there: each call moves the pen behind what it wrote.
+use crate::checked::Checked;
 use crate::lead::{figures_of, lead_of};
-use entryfile::{Figures, Turn};
+use entryfile::Figures;
 use number::write_number;
 
 #[derive(Drop)]
@@ -10,12 +11,11 @@ pub(crate) struct Pen<'a> {
 }
 
 impl<'a> Pen<'a> {
-    ghost use Rattle.std.specs.Prelude.{◌≤◌, length};
     ghost use Rattle.number.specs.Numbers.{encode};
     ghost use Rattle.entryfile.specs.Items.{numbers_bytes, reference_bytes, item_bytes};
-    ghost use Rattle.entryfile.specs.Views.{figures_of, reference_of, item_of};
+    ghost use Rattle.entryfile.specs.Views.{reference_of, item_of};
+    ghost use Rattle.entrywriter.specs.Leads.{figures_in};
     ghost use Rattle.entrywriter.specs.Pens.{HasRoom, Penned};
-    ghost use Rattle.entrywriter.specs.Spells.{Spells, SpellsIn};
 
     fn number(&mut self, n: u32)
         requires { HasRoom self.old (encode n) }
@@ -42,35 +42,33 @@ impl<'a> Pen<'a> {
         self.place = end;
     }
 
-    fn figures(&mut self, figures: Figures)
-        requires room { HasRoom self.old (numbers_bytes (figures_of figures)) }
-        requires spells { Spells figures }
-        ensures { Penned self.old (numbers_bytes (figures_of figures.entry)) self.new }
+    // The figures of a sheet; any other entry has none.
+    fn figures(&mut self, entry: &Checked)
+        requires { HasRoom self.old (numbers_bytes (figures_in entry.now.turn.entry)) }
+        ensures { Penned self.old (numbers_bytes (figures_in entry.now.turn.entry)) self.new }
     {
-        match figures {
+        match figures_of(&entry.turn.entry) {
             Figures::Encoded(bytes) => self.bytes(bytes),
             Figures::Listed(numbers) => self.numbers(numbers),
         }
     }
 
-    // A reference and its length before it.
-    fn reference(&mut self, reference: &[u8])
-        requires room { HasRoom self.old (reference_bytes reference.now) }
-        requires short { length reference.now ≤ 32 }
-        ensures { Penned self.old (reference_bytes reference.now) self.new }
+    // The reference and its length before it.
+    fn reference(&mut self, entry: &Checked)
+        requires { HasRoom self.old (reference_bytes (reference_of entry.now.turn.entry)) }
+        ensures { Penned self.old (reference_bytes (reference_of entry.now.turn.entry)) self.new }
     {
+        let reference = entry.turn.entry.reference();
         self.number(reference.len() as u32);
         self.bytes(reference);
     }
 
-    pub(crate) fn entry(&mut self, turn: &Turn)
-        requires room { HasRoom self.old (item_bytes (item_of turn.now)) }
-        requires short { length (reference_of turn.now.entry) ≤ 32 }
-        requires spells { SpellsIn turn.now.entry }
-        ensures { Penned self.old (item_bytes (item_of turn.now)) self.new }
+    pub(crate) fn entry(&mut self, entry: &Checked)
+        requires { HasRoom self.old (item_bytes (item_of entry.now.turn)) }
+        ensures { Penned self.old (item_bytes (item_of entry.now.turn)) self.new }
     {
-        self.numbers(lead_of(turn).as_slice());
-        self.figures(figures_of(&turn.entry));
-        self.reference(turn.entry.reference());
+        self.numbers(lead_of(&entry.turn).as_slice());
+        self.figures(entry);
+        self.reference(entry);
     }
 }

@@ -7,8 +7,8 @@ few : (c : goal.After-number_size) → (c.numbers_size.result ≤ 40) × (c.numb
 few c =
     let short = ap length c.reference-reference.ensures in (
       omega (arith, c.numbers_size.ensures.few, c.as_slice.ensures.few),
-      omega (arith, c.number_size.ensures, encode_few (length c.reference-reference.result.now) (omega (arith, c.requires.short))),
-      omega (arith, c.requires.short),
+      omega (arith, c.number_size.ensures, encode_few (length c.reference-reference.result.now) (omega (arith, short, c.args.entry.now.short))),
+      omega (arith, short, c.args.entry.now.short),
     )
 
 pub overflow_add-result : goal.overflow_add-result
