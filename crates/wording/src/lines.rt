@@ -5,9 +5,7 @@ ghost use Rattle.wording.specs.Words.{sender_name};
 ghost use Rattle.wording.specs.Lines.{kind_text, holding_text, fields_text, heading_text, part_text, cause_text, fault_text, hours_text};
 
 use crate::words::{Megawatts, cause_meaning, entry_name, kind_name, mark_name};
-use entryfile::{
-    CapacityTest, Decision, Entry, Marking, NewAward, Sheet, Standby, Transfer, Turn,
-};
+use entryfile::{CapacityTest, Decision, Entry, Marking, NewAward, Sheet, Standby, Transfer, Turn};
 use market::{Cause, Fault, Kind};
 use std::fmt;
 
