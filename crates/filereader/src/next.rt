@@ -19,7 +19,8 @@ pub fn read_head(file: &[u8]) -> Result<Head, Fault>
 }
 
 impl<'a> Reader<'a> {
-    // A reader that stands behind the head of the file, or at the file's end where that comes first.
+    // A reader that stands behind the head of the file, or at the file's end where that comes first. File, families and
+    // head are what a reader is made of, so they are its parameters.
     pub fn new(file: &'a [u8], families: &'a [Family], head: Head) -> Reader<'a>
         ensures { StandsBehind file.now families.now head result }
     {

@@ -14,7 +14,7 @@ pub struct Survey {
     pub fault: Option<Fault>,
 }
 
-// Reads all entries of a file behind its head.
+// Reads all entries of a file behind its head. File, families and head are those of the reader that it makes.
 pub fn read_through<'a>(file: &'a [u8], families: &'a [Family], head: Head) -> Survey
     ensures is { result ≡ survey_after 0 (listing_of families.now file.now head) }
     ensures writes { WholeFileWrites families.now file.now head }

@@ -4,7 +4,7 @@ use std::alloc::{AllocError, Global};
 use std::io;
 use wording::{Hours, Tenths};
 
-// The figures of one hour, in megawatts, and the place after them.
+// The figures of one hour, in megawatts, and the place after them; it reads by `read_number`, which takes a place.
 fn hour_figures(
     heap: Global,
     bytes: &[u8],

@@ -12,9 +12,9 @@ pub trait Numbered: Copy + TryFrom<u32, Error = UnknownNumber> {
     // the number of each
     ghost number_of: { Self → ℕ };
 
-    // how many there are
+    // the greatest number that names one
     ghost most: { ℕ };
 
-    // a number from 1 to the most names the kind that has it, and no other number names one
+    // a number from 1 to the most names a kind that has it, and no other number names one
     ghost named: { (n : ℕ) (r : Result Self UnknownNumber) → Self.try_from_gives n r → NamedBy number_of most n r };
 }

@@ -35,7 +35,8 @@ impl Opening {
     ghost use Rattle.market.specs.Openings.{terms};
     ghost use Rattle.market.specs.Opened.{Made, terms_of};
 
-    // An opening with these terms; refused with cause 5 where one of them is out of its range.
+    // An opening with these terms; refused with cause 5 where one of them is out of its range. They come one by one, since
+    // a caller has slices of any length, and `OpeningTerms` holds lists that are short enough.
     pub fn new(
         months: &[Month],
         first_hour: u32,
