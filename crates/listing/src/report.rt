@@ -92,7 +92,8 @@ fn print_end(rt: &HostRuntime, place: usize, survey: Survey) -> io::Result<()> {
     println!(rt; "Entries read whole: {entries}")
 }
 
-// The entries one by one, up to the end of the file or the first fault; returns the place where the reader stops.
+// The entries one by one, up to the end of the file or the first fault; returns the place where the reader stops. File,
+// families and head are those of the reader that it makes.
 fn print_entries<'a>(
     rt: &HostRuntime,
     file: &'a [u8],
