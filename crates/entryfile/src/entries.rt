@@ -98,6 +98,7 @@ fn sheet<'a>(cursor: &mut Cursor<'a>, families: &[Family]) -> Result<Sheet<'a>, 
     })
 }
 
+// An award that stands by from an hour on.
 fn standby<'a>(cursor: &mut Cursor<'a>) -> Result<Standby<'a>, EntryFault>
     ensures { (s : ℕ) → item_view (λ b. entry_item s (entries.Standby b)) (moved result cursor.new) ≡ entry_with (9 ∷ s ∷ []) standby_form cursor.old.file.now cursor.old.place }
 {
@@ -108,6 +109,7 @@ fn standby<'a>(cursor: &mut Cursor<'a>) -> Result<Standby<'a>, EntryFault>
     })
 }
 
+// A capacity test, and what it delivered.
 fn capacity_test<'a>(cursor: &mut Cursor<'a>) -> Result<CapacityTest<'a>, EntryFault>
     ensures { (s : ℕ) → item_view (λ c. entry_item s (entries.Test c)) (moved result cursor.new) ≡ entry_with (11 ∷ s ∷ []) test_form cursor.old.file.now cursor.old.place }
 {
@@ -118,6 +120,7 @@ fn capacity_test<'a>(cursor: &mut Cursor<'a>) -> Result<CapacityTest<'a>, EntryF
     })
 }
 
+// A mark on an award.
 fn marking<'a>(cursor: &mut Cursor<'a>) -> Result<Marking<'a>, EntryFault>
     ensures { (s : ℕ) → item_view (λ m. entry_item s (entries.Marking m)) (moved result cursor.new) ≡ entry_with (12 ∷ s ∷ []) mark_form cursor.old.file.now cursor.old.place }
 {

@@ -1,9 +1,10 @@
 // Reading what stands before the entries: the version and the opening.
-ghost use Rattle.std.specs.Prelude.{◌≡◌, true, IfOk};
+ghost use Rattle.std.specs.Prelude.{◌≡◌, true, [], ◌∷◌, IfOk};
+ghost use Rattle.market.specs.Ranges.{within};
 ghost use Rattle.market.specs.Openings.{said};
 ghost use Rattle.market.specs.Opened.{terms_of};
-ghost use Rattle.entryfile.specs.Forms.{form_at, accepts};
-ghost use Rattle.entryfile.specs.Layout.{opening_form};
+ghost use Rattle.entryfile.specs.Forms.{Form, then_at, form_at, accepts};
+ghost use Rattle.entryfile.specs.Layout.{number, shares_form, opening_form};
 ghost use Rattle.entryfile.specs.Files.{head_form, head_bytes, opening_numbers};
 ghost use Rattle.entryfile.specs.Laws.{Stands};
 ghost use Rattle.entryfile.specs.Views.{view_by};
@@ -22,21 +23,39 @@ pub struct Head {
     pub end: usize,
 }
 
+// The first and the last hour of the availability window, whatever follows.
+fn window(cursor: &mut Cursor<'_>) -> Result<(u32, u32), EntryFault>
+    ensures is { (rest : Form) → form_at (number (within 1 24) (λ first. number (within first 24) (λ last. rest))) cursor.old.file.now cursor.old.place ≡ then_at (form_at rest cursor.old.file.now) (view_by (λ p. p.0 ∷ p.1 ∷ []) (moved result cursor.new)) }
+    ensures file { SameFile cursor.old cursor.new }
+{
+    let first_hour = cursor.range(1, 24)?;
+    Ok((first_hour, cursor.range(first_hour, 24)?))
+}
+
+// The buy-out rate and the pass mark.
+fn shares(cursor: &mut Cursor<'_>) -> Result<(u32, u32), EntryFault>
+    ensures is { view_by (λ p. p.0 ∷ p.1 ∷ []) (moved result cursor.new) ≡ form_at shares_form cursor.old.file.now cursor.old.place }
+    ensures file { SameFile cursor.old cursor.new }
+{
+    Ok((cursor.range(0, 100)?, cursor.range(1, 100)?))
+}
+
 // The terms at the cursor.
 fn terms(cursor: &mut Cursor<'_>) -> Result<OpeningTerms, EntryFault>
     ensures is { view_by (λ t. opening_numbers (said t)) (moved result cursor.new) ≡ form_at opening_form cursor.old.file.now cursor.old.place }
     ensures file { SameFile cursor.old cursor.new }
 {
     let months = list(cursor)?;
-    let first_hour = cursor.range(1, 24)?;
-    let last_hour = cursor.range(first_hour, 24)?;
+    let (first_hour, last_hour) = window(cursor)?;
+    let prices = list(cursor)?;
+    let (buyout_rate, pass_mark) = shares(cursor)?;
     Ok(OpeningTerms {
         months,
         first_hour,
         last_hour,
-        prices: list(cursor)?,
-        buyout_rate: cursor.range(0, 100)?,
-        pass_mark: cursor.range(1, 100)?,
+        prices,
+        buyout_rate,
+        pass_mark,
     })
 }
 

@@ -17,6 +17,7 @@ impl<'a> Pen<'a> {
     ghost use Rattle.entrywriter.specs.Leads.{figures_in};
     ghost use Rattle.entrywriter.specs.Pens.{HasRoom, Penned};
 
+    // One number.
     fn number(&mut self, n: u32)
         requires { HasRoom self.old (encode n) }
         ensures { Penned self.old (encode n) self.new }
@@ -24,6 +25,7 @@ impl<'a> Pen<'a> {
         self.place = write_number(self.buf, self.place, n).unwrap();
     }
 
+    // Numbers, one after another.
     pub(crate) fn numbers(&mut self, numbers: &[u32])
         requires { HasRoom self.old (numbers_bytes numbers.now) }
         ensures { Penned self.old (numbers_bytes numbers.now) self.new }
@@ -33,6 +35,7 @@ impl<'a> Pen<'a> {
         }
     }
 
+    // Bytes as they are.
     fn bytes(&mut self, bytes: &[u8])
         requires { HasRoom self.old bytes.now }
         ensures { Penned self.old bytes.now self.new }
@@ -63,6 +66,7 @@ impl<'a> Pen<'a> {
         self.bytes(reference);
     }
 
+    // A whole entry: its numbers, its figures and its reference.
     pub(crate) fn entry(&mut self, entry: &Checked)
         requires { HasRoom self.old (item_bytes (item_of entry.now.turn)) }
         ensures { Penned self.old (item_bytes (item_of entry.now.turn)) self.new }
