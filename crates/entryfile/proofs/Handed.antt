@@ -1,18 +1,17 @@
 -- What an entry that was read has of its file.
-use Rattle.std.proofs.Common.{◌≡◌, ℕ, ◌+◌, ◌-◌, ◌<◌, ◌≤◌, List, ◌++◌, length, take, drop, IfOk, Some, Ok, Err, Result, sym, refl, ap, ◌∙◌, append_assoc, arith, length-append, drop-drop}
+use Rattle.std.proofs.Common.{◌≡◌, ℕ, ◌+◌, ◌-◌, ◌≤◌, List, ◌++◌, length, take, drop, IfOk, Ok, Err, Result, sym, refl, ap, ◌∙◌, append_assoc, arith, length-append, drop-drop}
 use Rattle.std.specs.Int.Digits.{AllBelowBase}
 use Rattle.std.specs.List.{between}
 use Rattle.std.proofs.lemmas.List.{drop_at}
 use Rattle.std.proofs.lemmas.Slice.{between_is}
-use Rattle.std.proofs.lemmas.Bool.{cond-false, lt-leb}
 use Rattle.number.specs.Numbers.{encode}
 use Rattle.market.specs.declared.family.Family.{Family}
 use Rattle.entryfile.specs.declared.fault.EntryFault.{EntryFault}
 use Rattle.entryfile.specs.declared.entry.Turn.{Turn}
-use Rattle.entryfile.specs.Items.{Item, entry_at, item_bytes, numbers_bytes}
+use Rattle.entryfile.specs.Items.{entry_at, item_bytes, numbers_bytes}
 use Rattle.entryfile.specs.Laws.{Stands}
 use Rattle.entryfile.specs.Views.{item_of, numbers_of, reference_of, turn_view, FiguresStand}
-use Rattle.entryfile.specs.Steps.{FromFile, position, step, step_by}
+use Rattle.entryfile.specs.Steps.{FromFile}
 use Rattle.entryfile.proofs.Places.{length-between}
 use Rattle.entryfile.proofs.Writing.{entry_writes}
 
@@ -40,7 +39,3 @@ module _ (zones : ℕ) (families : List Family) (file : List ℕ) (at : ℕ) (un
         figures = figures;
       }
   handed (Err x) e figures = tt
-
--- the reader's answer where there is an entry
-pub step_taken : (zones : ℕ) (families : List Family) (file : List ℕ) (place entries : ℕ) {i : Item} {end : ℕ} → place < length file → Ok (i, end) ≡ entry_at zones families file place → (Ok (Some i), position end (entries + 1)) ≡ step zones families file place entries
-step_taken zones families file place entries h e = ap (step_by place entries) e ∙ sym (cond-false _ _ _ (lt-leb (length file) place h))
