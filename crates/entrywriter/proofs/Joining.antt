@@ -3,7 +3,7 @@ use Rattle.std.proofs.Common.{◌≡◌, ℕ, ◌+◌, ◌*◌, ◌^◌, ◌<◌
 use Rattle.std.specs.Int.Digits.{AllBelowBase}
 use Rattle.std.proofs.ByRecursion.{All-from_get_or}
 use Rattle.std.proofs.lemmas.Grind.{flat_map-append}
-use Rattle.std.proofs.lemmas.List.{take_more}
+use Rattle.std.proofs.lemmas.List.{at_drop_more, take_more}
 use Rattle.number.specs.Numbers.{encode}
 use Rattle.number.proofs.Codec.{encode_few}
 use Rattle.entryfile.specs.declared.entry.Entry.{Entry}
@@ -12,6 +12,18 @@ use Rattle.entryfile.specs.declared.entry.Turn.{Turn}
 use Rattle.entryfile.specs.Items.{numbers_bytes, reference_bytes, item_bytes}
 use Rattle.entryfile.specs.Views.{numbers_of, reference_of, item_of}
 use Rattle.entrywriter.specs.Leads.{lead_of, figures_in}
+
+-- the bytes of numbers and of more numbers after them
+pub bytes_append : (xs ys : List ℕ) → numbers_bytes (xs ++ ys) ≡ numbers_bytes xs ++ numbers_bytes ys
+bytes_append xs ys = flat_map-append encode xs ys
+
+-- what is left of numbers, one number on
+pub bytes_rest : (ns : List ℕ) (i : ℕ) → i < length ns → numbers_bytes (drop i ns) ≡ encode (get_or ns i 0) ++ numbers_bytes (drop (i + 1) ns)
+bytes_rest ns i h = at_drop_more numbers_bytes ns i 0 h
+
+-- how many bytes that is
+pub size_more : (ns : List ℕ) (i : ℕ) → i < length ns → length (numbers_bytes (drop i ns)) ≡ length (encode (get_or ns i 0)) + length (numbers_bytes (drop (i + 1) ns))
+size_more ns i h = ap length (bytes_rest ns i h) ∙ length-append (encode (get_or ns i 0)) (numbers_bytes (drop (i + 1) ns))
 
 -- one number on
 pub bytes_more : (ns : List ℕ) (i : ℕ) → i < length ns → numbers_bytes (take i ns) ++ encode (get_or ns i 0) ≡ numbers_bytes (take (i + 1) ns)

@@ -16,7 +16,8 @@ sets-append b at (x ∷ xs) ys = ap (λ n. sets (sets (set b at x) (suc at) xs) 
 pub long : {b c : List ℕ} {at p : ℕ} {xs : List ℕ} → Wrote b at xs p c → length c ≡ length b
 long {b} {c} {at} {p} {xs} v = ap length v.left ∙ length-sets b at xs
 
-wrote_then : {b c d : List ℕ} {at p q : ℕ} {xs ys : List ℕ} → Wrote b at xs p c → Wrote c p ys q d → Wrote b at (xs ++ ys) q d
+-- a write into a buffer, and a second one where it ends
+pub wrote_then : {b c d : List ℕ} {at p q : ℕ} {xs ys : List ℕ} → Wrote b at xs p c → Wrote c p ys q d → Wrote b at (xs ++ ys) q d
 wrote_then {b} {c} {d} {at} {p} {q} {xs} {ys} v w =
     let l = length-append xs ys in
     record {
@@ -40,3 +41,7 @@ part b t u p k e n h =
 -- the same write of bytes that are known to be the same
 pub same : {b c : Pen} {xs ys : List ℕ} → xs ≡ ys → Penned b xs c → Penned b ys c
 same {b} {c} e v = subst (λ l. Penned b l c) e v
+
+-- so for a write that is known by its buffer alone
+pub wrote_same : {b c : List ℕ} {at p : ℕ} {xs ys : List ℕ} → xs ≡ ys → Wrote b at xs p c → Wrote b at ys p c
+wrote_same {b} {c} {at} {p} e v = subst (λ l. Wrote b at l p c) e v

@@ -1,10 +1,10 @@
 -- What a writer answers, by its tests.
-use Rattle.std.proofs.Common.{◌≡◌, ℕ, ◌+◌, ◌^◌, Bool, true, ◌&&◌, List, ◌++◌, length, drop, Ok, sym, ap, ◌∙◌, zero-add}
+use Rattle.std.proofs.Common.{◌≡◌, ℕ, ◌+◌, ◌^◌, ◌≤◌, Bool, true, ◌&&◌, List, ◌++◌, length, drop, Ok, sym, ap, ◌∙◌, zero-add, arith}
 use Rattle.std.specs.List.{list_all}
 use Rattle.std.proofs.lemmas.List.Edits.{sets-eq}
 use Rattle.std.specs.Int.Digits.{AllBelowBase}
 use Rattle.std.proofs.ByRecursion.{All-append}
-use Rattle.std.proofs.lemmas.Bool.{and_parts, and_from}
+use Rattle.std.proofs.lemmas.Bool.{and_parts, and_from, le-leb}
 use Rattle.number.specs.Writes.{Wrote}
 use Rattle.market.specs.Ranges.{within, largest}
 use Rattle.market.specs.Families.{is_family, figure_count}
@@ -57,9 +57,17 @@ module _ (zones : ℕ) (families : List Family) (s : ℕ) where
   numbers_small e a u = rw (in_parts s e) (All-append _ (lead_of s e) (figures_in e) u (figures_in_small e a))
 
 module _ (zones : ℕ) (families : List Family) (turn : Turn) where
+  -- fields in their ranges, and a reference that is short enough
+  pub item_is_in_range : accepts (entry_form zones families) (numbers_of turn.sender turn.entry) ≡ true → length (reference_of turn.entry) ≤ 32 → item_in_range zones families (item_of turn) ≡ true
+  item_is_in_range fit few = and_from _ _ fit (and_from _ _ (le-leb 0 _ (omega arith)) (le-leb _ 32 few))
+
   -- an entry that passes every test is read back
   pub reads_back : item_in_range zones families (item_of turn) ≡ true → AllBelowBase (2 ^ 32) (lead_of turn.sender turn.entry) → list_all printable (reference_of turn.entry) ≡ true → {was : List ℕ} {n : ℕ} {is : List ℕ} → Wrote was 0 (item_bytes (item_of turn)) n is → ReadsBack zones families (item_of turn) (Ok n)
   reads_back r u p {n = n} w file at post e =
       let (fit, few) = and_parts (accepts (entry_form zones families) (numbers_of turn.sender turn.entry)) (within 0 32 (length (reference_of turn.entry))) r in
       let good : Good zones families (item_of turn) = record { written = record { fits = fit; small = numbers_small zones families turn.sender turn.entry fit u }; reference = and_from _ _ few p } in
       entry_reads zones families file at (item_of turn) post good e ∙ ap (λ k. Ok (item_of turn, at + k)) (sym (w.ends ∙ zero-add _))
+
+  -- the same, by the fields and the reference
+  pub reads_back_by_parts : accepts (entry_form zones families) (numbers_of turn.sender turn.entry) ≡ true → length (reference_of turn.entry) ≤ 32 → AllBelowBase (2 ^ 32) (lead_of turn.sender turn.entry) → list_all printable (reference_of turn.entry) ≡ true → {was : List ℕ} {n : ℕ} {is : List ℕ} → Wrote was 0 (item_bytes (item_of turn)) n is → ReadsBack zones families (item_of turn) (Ok n)
+  reads_back_by_parts fit few u p w = reads_back (item_is_in_range fit few) u p w

@@ -1,5 +1,4 @@
-use Rattle.std.proofs.Common.{rules, ◌^◌, length, refl, ap, ◌∙◌, subst, arith}
-use Rattle.std.specs.Int.Digits.{AllBelowBase}
+use Rattle.std.proofs.Common.{rules, length, refl, ap, ◌∙◌, arith}
 use Rattle.std.proofs.lemmas.Bool.{le-leb}
 use Rattle.market.specs.Opened.{terms_of}
 use Rattle.entryfile.specs.Items.{numbers_bytes}
@@ -18,5 +17,5 @@ returns c =
     let room = le-leb (length (head_bytes t)) (length was) (omega (arith, c.if-buf-numbers_size.false, c.numbers_size.ensures.is, ap (λ ns. length (numbers_bytes ns)) said)) in
     record {
       is = search (rules, wrote was (head_bytes t) _ _ _ put refl refl room);
-      rereads = head_reads_back t c.args.opening.now.in_range (subst (AllBelowBase (2 ^ 32)) said c.numbers_size.ensures.small) put;
+      rereads = head_reads_back t c.args.opening.now.in_range put;
     }
