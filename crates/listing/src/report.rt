@@ -1,5 +1,5 @@
 // The whole report on an entry file, line by line.
-use crate::figures::print_hours;
+use crate::figures::figure_lines;
 use crate::input::whole_input;
 use entryfile::{Entry, Figures, Head, Sheet};
 use filereader::{Reader, Survey, read_head, read_through};
@@ -63,8 +63,9 @@ fn print_figures(rt: &HostRuntime, entry: &Entry, families: &[Family]) -> io::Re
     ) = *entry
     {
         let count = figures_in_sheet(families, family).unwrap_or(0);
+        let lines = figure_lines(rt.alloc(), bytes, count / 24)?;
         println!(rt; "  figures: {count}, in MW")?;
-        return print_hours(rt, bytes, count / 24);
+        return print!(rt; "{lines}");
     }
     Ok(())
 }
