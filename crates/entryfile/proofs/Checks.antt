@@ -6,7 +6,12 @@ use Rattle.std.proofs.lemmas.Bool.{cond-true, cond-false, cases_Bool}
 use Rattle.number.specs.Numbers.{decode_by, decode, placed, number_at}
 use Rattle.number.specs.declared.NumberFault.{NumberFault}
 use Rattle.market.specs.Ranges.{within}
+use Rattle.market.specs.Kinds.{kind_number, mark_number}
 use Rattle.market.specs.declared.family.Family.{Family}
+use Rattle.market.specs.declared.kind.Kind.{Kind}
+use Rattle.market.specs.declared.kind.Kind.TheVariants.{VirtualDemandResponse, PhysicalDemandResponse, DispatchableLoad, Generation, Storage, SystemBackedImport, GeneratorBackedImport}
+use Rattle.market.specs.declared.mark.Mark.{Mark}
+use Rattle.market.specs.declared.mark.Mark.TheVariants.{LateData, FailedImportCall}
 use Rattle.entryfile.specs.declared.fault.EntryFault.{EntryFault}
 use Rattle.entryfile.specs.declared.fault.EntryFault.TheVariants.{Number, Unknown}
 use Rattle.entryfile.specs.Forms.{Got, checked, checked_at, after_field, form_at}
@@ -23,6 +28,9 @@ ok_not_err e = let z : ◌≡◌ {A = ℕ} 0 1 = cc in omega arith
 
 ok_first : {n p : ℕ} {q : ℕ × ℕ} → ◌≡◌ {A = Got ℕ} (Ok (n, p)) (Ok q) → n ≡ q.0
 ok_first e = cc
+
+ok_same : {n p : ℕ} {q : ℕ × ℕ} → ◌≡◌ {A = Got ℕ} (Ok (n, p)) (Ok q) → ◌≡◌ {A = Result (ℕ × ℕ) NumberFault} (Ok (n, p)) (Ok q)
+ok_same {n} {p} {q} e = let h : (n, p) ≡ q = cc in ap Ok h
 
 module _ (fault : ℕ → EntryFault) (test : ℕ → Bool) (file : List ℕ) (at : ℕ) where
   pub check_err : {e : NumberFault} → Err e ≡ number_at file at → Err (Number e) ≡ checked_at fault test file at
@@ -54,6 +62,35 @@ module _ (fault : ℕ → EntryFault) (test : ℕ → Bool) (file : List ℕ) (a
       by_cases : {n p : ℕ} (r : Result (ℕ × ℕ) NumberFault) → Ok (n, p) ≡ checked fault test at r → test n ≡ true
       by_cases {n} (Ok q) e = ⊎_elim (λ t. ap test (ok_first (e ∙ cond-true _ _ _ t)) ∙ t) (λ f. absurd (ok_not_err (e ∙ cond-false _ _ _ f))) (cases_Bool (test q.0))
       by_cases (Err x) e = absurd (ok_not_err e)
+
+  -- what passed the test was read
+  pub check_number : {n p : ℕ} → Ok (n, p) ≡ checked_at fault test file at → Ok (n, p) ≡ number_at file at
+  unfolding checked_at
+  check_number e = by_cases (number_at file at) e
+    where
+      by_cases : {n p : ℕ} (r : Result (ℕ × ℕ) NumberFault) → Ok (n, p) ≡ checked fault test at r → Ok (n, p) ≡ r
+      by_cases (Ok q) e = ⊎_elim (λ t. ok_same (e ∙ cond-true _ _ _ t)) (λ f. absurd (ok_not_err (e ∙ cond-false _ _ _ f))) (cases_Bool (test q.0))
+      by_cases (Err x) e = absurd (ok_not_err e)
+
+-- the number of a kind, and of a sort of mark, is in its range
+pub kind_within : (k : Kind) (n : ℕ) → kind_number k ≡ n → within 1 7 n ≡ true
+kind_within k n e = ap (within 1 7) (sym e) ∙ known k
+  where
+    known : (k : Kind) → within 1 7 (kind_number k) ≡ true
+    known VirtualDemandResponse = refl
+    known PhysicalDemandResponse = refl
+    known DispatchableLoad = refl
+    known Generation = refl
+    known Storage = refl
+    known SystemBackedImport = refl
+    known GeneratorBackedImport = refl
+
+pub mark_within : (m : Mark) (n : ℕ) → mark_number m ≡ n → within 1 2 n ≡ true
+mark_within m n e = ap (within 1 2) (sym e) ∙ known m
+  where
+    known : (m : Mark) → within 1 2 (mark_number m) ≡ true
+    known LateData = refl
+    known FailedImportCall = refl
 
 -- where no byte stands, there is no number and no entry
 pub number_ends : (file : List ℕ) (at : ℕ) → length file ≤ at → number_at file at ≡ Err (ends_at at)

@@ -34,6 +34,14 @@ row_then [] rest file at = refl
 row_then (test ∷ ranges) rest file at =
     field_then _ (λ n p. form_at (row_form ranges done) file p) (form_at rest file) (checked_at OutOfRange test file at) (λ n p. row_then ranges rest file p)
 
+ahead_then : (rest : ℕ → Got (List ℕ)) (ns : List ℕ) (r : Got (List ℕ)) → ahead ns (then_at rest r) ≡ then_at rest (ahead ns r)
+ahead_then rest [] r = refl
+ahead_then rest (n ∷ ns) r = ap (more n) (ahead_then rest ns r) ∙ then_more rest n (ahead ns r)
+
+then_then : (k l rest : ℕ → Got (List ℕ)) (r : Got (List ℕ)) → ((p : ℕ) → k p ≡ then_at rest (l p)) → then_at k r ≡ then_at rest (then_at l r)
+then_then k l rest (Ok p) h = ap (ahead p.0) (h p.1) ∙ ahead_then rest p.0 (l p.1)
+then_then k l rest (Err e) h = refl
+
 -- the items of a list, each a row of numbers
 module _ (ranges : List (ℕ → Bool)) (rest : Form) (file : List ℕ) where
   abbrev pub item : Form → Form
@@ -51,3 +59,11 @@ module _ (ranges : List (ℕ → Bool)) (rest : Form) (file : List ℕ) where
   pub item_stop : (first : List ℕ) (k next : ℕ) {e : EntryFault} → 0 < k → Err e ≡ form_at (item done) file next → ahead first (form_at (items_form item k rest) file next) ≡ Err e
   item_stop first zero next some e = absurd (omega arith)
   item_stop first (suc k) next some e = ap (ahead first) (row_then ranges (items_form item k rest) file next ∙ ap (then_at (form_at (items_form item k rest) file)) (sym e)) ∙ ahead-err first _
+
+  -- all items, and then what follows: it makes no difference whether the rest stands in the form
+  pub items_then : (k at : ℕ) → form_at (items_form item k rest) file at ≡ then_at (form_at rest file) (form_at (items_form item k done) file at)
+  items_then zero at = refl
+  items_then (suc k) at =
+      row_then ranges (items_form item k rest) file at
+      ∙ then_then (form_at (items_form item k rest) file) (form_at (items_form item k done) file) (form_at rest file) (form_at (item done) file at) (items_then k)
+      ∙ ap (then_at (form_at rest file)) (sym (row_then ranges (items_form item k done) file at))
