@@ -111,6 +111,17 @@ pub number_is : (file bytes : List ℕ) (at n size : ℕ) → bytes ≡ drop at 
 unfolding number_at
 number_is file bytes at n size from e = rw from at (ap (placed at) e)
 
+-- a number of one byte, and where no byte stands, by their place in the file
+pub decode_low : (file : List ℕ) (at : ℕ) → at < length file → get_or file at 0 < 128 → Ok (get_or file at 0, 1) ≡ decode (drop at file)
+decode_low file at in' low = rw (drop_more file at 0 in') (decode_first (get_or file at 0 ∷ drop (at + 1) file) (omega arith) low)
+
+pub number_low : (file : List ℕ) (at : ℕ) → at < length file → get_or file at 0 < 128 → Ok (get_or file at 0, at + 1) ≡ number_at file at
+number_low file at in' low = number_is file (drop at file) at (get_or file at 0) 1 refl (decode_low file at in' low)
+
+pub number_ends : (file : List ℕ) (at : ℕ) → length file ≤ at → Err (record { cause = Ends; place = at }) ≡ number_at file at
+unfolding number_at
+number_ends file at h = ap (placed at) (reading_ends (drop at file) 0 0 (reading_none (drop at file)) (rw (drop_all at file h) (omega arith)))
+
 pub number_after : (bytes : List ℕ) (n size : ℕ) → Ok (n, size) ≡ decode bytes → 0 < size
 number_after bytes n size e = (got bytes n size (sym e)).least
 
@@ -128,4 +139,4 @@ faults file bytes at e from h = rw from at (ap (placed at) h)
 pub ruleset readings = (reading_none, reading_last, reading_ends, reading_padded, reading_large)
 
 -- what `read_number` asks for of the bytes from a place on
-pub ruleset placings = (common_steps, drop_all, decode_first, number_is, number_after, number_within, number_rewrites, faults)
+pub ruleset placings = (common_steps, decode_low, number_low, number_ends, number_is, number_after, number_within, number_rewrites, faults)

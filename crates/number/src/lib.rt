@@ -32,14 +32,18 @@ pub fn read_number(file: &[u8], at: usize) -> Result<(u32, usize), NumberFault>
     ensures within { IfOk result (λ p. (at < p.1) × (p.1 ≤ length file.now)) }
     ensures rewrites { IfOk result (λ p. encode p.0 ≡ between at p.1 file.now) }
 {
-    let bytes = file.get(at..).unwrap_or(&[]);
-    // most numbers have one byte
-    if let [first, ..] = bytes
-        && *first < 128
-    {
-        return Ok((u32::from(*first), at + 1));
+    if at >= file.len() {
+        return Err(NumberFault {
+            cause: NumberCause::Ends,
+            place: at,
+        });
     }
-    match read_groups(bytes) {
+    // most numbers have one byte, which is looked at where it stands: a part of the file would cost as much again
+    let first = file[at];
+    if first < 128 {
+        return Ok((u32::from(first), at + 1));
+    }
+    match read_groups(&file[at..]) {
         Ok((n, size)) => Ok((n, at + size)),
         Err(cause) => Err(NumberFault { cause, place: at }),
     }
